@@ -1,106 +1,144 @@
--- Worked programs, checked and run by the definitions.
-use mathlib.Core.Bool.{true, false}
-use mathlib.Core.List.{List, [], _∷_}
-use mathlib.Core.Option.{some}
+-- Worked programs, read, checked and run by the definitions: each holds by computing.
+use mathlib.Core.Bool.{Bool, true, false}
+use mathlib.Core.List.{List, [], _∷_, _++_}
+use mathlib.Core.Option.{Option, some, none}
 use mathlib.Core.Path.{_≡_, refl}
 use Prim.Native.Nat.{ℕ}
-use Rattle.language.specs.Syntax.{int, dat, ref, mut, num, var, ctor, call, share, lend, load, Prog, nil-e, cons-e, nil-s, cons-s, take, edit, assign, store, bind, put-s, cond, loop, match-s, body, give, give-match, no-alts, alt, no-arms, arm}
+use lib.Chars.{codes}
+use Rattle.language.specs.Base.{from-option}
+use Rattle.language.specs.Syntax.{Prog}
 use Rattle.language.specs.Text.{reads}
-use Rattle.language.specs.Checks as checks
-use Rattle.language.specs.Meaning.{Value, int-v, Res, stop, then, need, turn, goes-under, eval, run}
-use Rattle.language.specs.Meaning as meaning
+use Rattle.language.specs.Checks.{accepts}
+use Rattle.language.specs.Meaning.{Value, int-v, Stop, wrong, no-heap, no-stack, no-turns, Limits, Res, ok, stop, then, need, turn, goes-under, eval, run}
+use Rattle.language.specs.Says.{first-bad}
 
-pub data Brief : Type 0 where
-  with1 : Value → List ℕ → Brief
-  other : Brief
+-- how a text fares: no text; refused, at which function; or accepted
+pub data Verdict : Type 0 where
+  no-text : Verdict
+  refused : ℕ → Verdict
+  accepted : Verdict
 
-brief-of : Res Value → Brief
-brief-of (meaning.ok v s) = with1 v (s .outs)
-brief-of (stop k s) = other
+abbrev verdict-of : Prog → Bool → Verdict
+verdict-of q true = accepted
+verdict-of q false = refused (first-bad q 1 (q .funs))
 
-brief : Prog → Brief
-unfolding brief-of eval then need turn goes-under
-brief q = brief-of (run 400 (record { heap = 1000; stack = 100000; max-turns = 100 }) q [])
+abbrev verdict : List ℕ → Verdict
+verdict text = from-option (reads text) no-text (λ q. verdict-of q (accepts q))
 
-words : Prog
-words = record { datas = (record { name = (100 ∷ []); ctors = (record { name = (68 ∷ []); fields = (int ∷ []) } ∷ []); last = (98 ∷ 121 ∷ 101 ∷ []) } ∷ []); funs = (record { name = (98 ∷ 121 ∷ 101 ∷ []); pars = (record { name = (120 ∷ []); ty = (mut (dat (100 ∷ []))) } ∷ []); ret = int; does = (body (cons-s (match-s edit (120 ∷ []) (alt (68 ∷ []) ((107 ∷ []) ∷ []) (cons-s (put-s (load (107 ∷ []))) nil-s) no-alts)) nil-s) (give (num 0))) } ∷ record { name = (107 ∷ 101 ∷ 101 ∷ 112 ∷ []); pars = (record { name = (120 ∷ []); ty = (dat (100 ∷ [])) } ∷ []); ret = int; does = (body (cons-s (put-s (num 9)) nil-s) (give (num 5))) } ∷ record { name = (109 ∷ 97 ∷ 105 ∷ 110 ∷ []); pars = ([]); ret = int; does = (body (cons-s (bind (97 ∷ []) (ctor (68 ∷ []) (cons-e (num 1) nil-e))) (cons-s (bind (98 ∷ []) (ctor (68 ∷ []) (cons-e (num 2) nil-e))) (cons-s (cond (num 1) (cons-s (put-s (call (107 ∷ 101 ∷ 101 ∷ 112 ∷ []) (cons-e (var (97 ∷ [])) nil-e))) nil-s) nil-s) (cons-s (bind (99 ∷ []) (ctor (68 ∷ []) (cons-e (num 3) nil-e))) (cons-s (assign (99 ∷ []) (ctor (68 ∷ []) (cons-e (num 4) nil-e))) nil-s))))) (give (num 0))) } ∷ []) }
+-- how a text runs, accepted or not: what it ends with, or why it stops, and what it shows
+pub data Ending : Type 0 where
+  nothing : Ending
+  ended : Value → List ℕ → Ending
+  stopped : Stop → List ℕ → Ending
 
-words-ok : checks.accepts words ≡ true
-unfolding words
-words-ok = refl
+abbrev ending-of : Res Value → Ending
+ending-of (ok v s) = ended v (s .outs)
+ending-of (stop k s) = stopped k (s .outs)
 
-words-is : brief words ≡ with1 (int-v 0) (9 ∷ 1 ∷ 5 ∷ 3 ∷ 4 ∷ 2 ∷ [])
-unfolding words brief brief-of
-words-is = refl
+within : Limits → List ℕ → Ending
+unfolding eval then need turn goes-under
+within m text = from-option (reads text) nothing (λ q. ending-of (run 400 m q []))
 
-lent : Prog
-lent = record { datas = ([]); funs = (record { name = (109 ∷ 97 ∷ 105 ∷ 110 ∷ []); pars = ([]); ret = int; does = (body (cons-s (bind (120 ∷ []) (num 1)) (cons-s (bind (114 ∷ []) (lend (120 ∷ []))) (cons-s (store (114 ∷ []) (num 2)) nil-s))) (give (load (114 ∷ [])))) } ∷ []) }
+abbrev lent : ℕ → ℕ → ℕ → Limits
+lent h k n = record { heap = h; stack = k; max-turns = n }
 
-lent-ok : checks.accepts lent ≡ true
-unfolding lent
-lent-ok = refl
+abbrev ending : List ℕ → Ending
+ending text = within (lent 1000 100000 100) text
 
-lent-is : brief lent ≡ with1 (int-v 2) ([])
-unfolding lent brief brief-of
-lent-is = refl
+abbrev list-of-ints : List ℕ
+list-of-ints = codes "data list = Nil | Cons(int, box list); fn up(n: int): list { give if n == 0 { give Nil } else { give Cons(n, box up(n - 1)) } } fn sum(r: ref list): int { give view r { Nil { give 0 } Cons(x, t) { let u = inside t; give *x + sum(u) } } } "
 
-shared : Prog
-shared = record { datas = ([]); funs = (record { name = (109 ∷ 97 ∷ 105 ∷ 110 ∷ []); pars = ([]); ret = int; does = (body (cons-s (bind (120 ∷ []) (num 1)) (cons-s (bind (114 ∷ []) (share (120 ∷ []))) (cons-s (assign (120 ∷ []) (num 2)) nil-s))) (give (load (114 ∷ [])))) } ∷ []) }
+abbrev with-last-words : List ℕ
+with-last-words = codes "data d = D(int) drop bye; fn bye(x: mut d): int { edit x { D(k) { put *k; } } give 0 } "
 
-shared-ok : checks.accepts shared ≡ false
-unfolding shared
-shared-ok = refl
+-- a list turned round
+abbrev turned : List ℕ
+turned = list-of-ints ++ codes "fn rev(l: list, acc: list): list { give take l { Nil { give acc } Cons(x, t) { let u = open t; give rev(u, Cons(x, box acc)) } } } fn main(): int { let l = rev(up(4), Nil); give sum(&l) }"
 
-moved : Prog
-moved = record { datas = (record { name = (100 ∷ []); ctors = (record { name = (68 ∷ []); fields = (int ∷ []) } ∷ []); last = ([]) } ∷ []); funs = (record { name = (109 ∷ 97 ∷ 105 ∷ 110 ∷ []); pars = ([]); ret = int; does = (body (cons-s (bind (97 ∷ []) (ctor (68 ∷ []) (cons-e (num 1) nil-e))) (cons-s (bind (98 ∷ []) (var (97 ∷ []))) nil-s)) (give-match take (97 ∷ []) (arm (68 ∷ []) ((120 ∷ []) ∷ []) (body nil-s (give (var (120 ∷ [])))) no-arms))) } ∷ []) }
+turned-accepted : verdict turned ≡ accepted
+turned-accepted = refl
 
-moved-ok : checks.accepts moved ≡ false
-unfolding moved
-moved-ok = refl
+turned-ends : ending turned ≡ ended (int-v 10) []
+unfolding within
+turned-ends = refl
 
-twice : Prog
-twice = record { datas = (record { name = (100 ∷ []); ctors = (record { name = (68 ∷ []); fields = (int ∷ []) } ∷ []); last = ([]) } ∷ []); funs = (record { name = (102 ∷ []); pars = (record { name = (120 ∷ []); ty = (mut (dat (100 ∷ []))) } ∷ record { name = (121 ∷ []); ty = (ref (dat (100 ∷ []))) } ∷ []); ret = int; does = (body nil-s (give (num 0))) } ∷ record { name = (109 ∷ 97 ∷ 105 ∷ 110 ∷ []); pars = ([]); ret = int; does = (body (cons-s (bind (97 ∷ []) (ctor (68 ∷ []) (cons-e (num 1) nil-e))) nil-s) (give (call (102 ∷ []) (cons-e (lend (97 ∷ [])) (cons-e (share (97 ∷ [])) nil-e))))) } ∷ []) }
+-- boxes of 3 words, 4 at most: 12 words suffice, and one less doesn't
+turned-room : within (lent 12 100000 100) turned ≡ ended (int-v 10) []
+unfolding within
+turned-room = refl
 
-twice-ok : checks.accepts twice ≡ false
-unfolding twice
-twice-ok = refl
+turned-no-room : within (lent 11 100000 100) turned ≡ stopped no-heap []
+unfolding within
+turned-no-room = refl
 
-own : Prog
-own = record { datas = (record { name = (100 ∷ []); ctors = (record { name = (68 ∷ []); fields = (int ∷ []) } ∷ []); last = ([]) } ∷ []); funs = (record { name = (102 ∷ []); pars = (record { name = (120 ∷ []); ty = (dat (100 ∷ [])) } ∷ []); ret = (ref (dat (100 ∷ []))); does = (body nil-s (give (share (120 ∷ [])))) } ∷ record { name = (109 ∷ 97 ∷ 105 ∷ 110 ∷ []); pars = ([]); ret = int; does = (body nil-s (give (num 0))) } ∷ []) }
+-- moved on one way; last words in their order
+abbrev last-words : List ℕ
+last-words = with-last-words ++ codes "fn keep(x: d): int { put 9; give 5 } fn main(): int { let a = D(1); let b = D(2); if 1 { put keep(a); } else { } let c = D(3); c = D(4); give 0 }"
 
-own-ok : checks.accepts own ≡ false
-unfolding own
-own-ok = refl
+last-words-accepted : verdict last-words ≡ accepted
+last-words-accepted = refl
 
-back : Prog
-back = record { datas = (record { name = (100 ∷ []); ctors = (record { name = (68 ∷ []); fields = (int ∷ []) } ∷ []); last = ([]) } ∷ []); funs = (record { name = (102 ∷ []); pars = (record { name = (120 ∷ []); ty = (ref (dat (100 ∷ []))) } ∷ []); ret = (ref (dat (100 ∷ []))); does = (body nil-s (give (var (120 ∷ [])))) } ∷ record { name = (109 ∷ 97 ∷ 105 ∷ 110 ∷ []); pars = ([]); ret = int; does = (body nil-s (give (num 0))) } ∷ []) }
+last-words-end : ending last-words ≡ ended (int-v 0) (9 ∷ 1 ∷ 5 ∷ 3 ∷ 4 ∷ 2 ∷ [])
+unfolding within
+last-words-end = refl
 
-back-ok : checks.accepts back ≡ true
-unfolding back
-back-ok = refl
+-- a reference that a function gives
+abbrev first : List ℕ
+first = codes "data list = Nil | Cons(int, box list); fn first(m: mut list): mut int { give edit m { Nil { give first(m) } Cons(x, t) { give x } } } fn main(): int { let l = Cons(4, box Nil); if 1 { let r = first(&mut l); *r = 9; } else { } give view l { Nil { give 0 } Cons(x, t) { give *x } } }"
 
-back-is : brief back ≡ with1 (int-v 0) ([])
-unfolding back brief brief-of
-back-is = refl
+first-accepted : verdict first ≡ accepted
+first-accepted = refl
 
-round : Prog
-round = record { datas = (record { name = (100 ∷ []); ctors = (record { name = (68 ∷ []); fields = (int ∷ []) } ∷ []); last = ([]) } ∷ []); funs = (record { name = (109 ∷ 97 ∷ 105 ∷ 110 ∷ []); pars = ([]); ret = int; does = (body (cons-s (bind (97 ∷ []) (ctor (68 ∷ []) (cons-e (num 1) nil-e))) (cons-s (loop (num 0) (cons-s (bind (98 ∷ []) (var (97 ∷ []))) nil-s)) nil-s)) (give (num 0))) } ∷ []) }
+first-ends : ending first ≡ ended (int-v 9) []
+unfolding within
+first-ends = refl
 
-round-ok : checks.accepts round ≡ false
-unfolding round
-round-ok = refl
+-- assigned to while it is shown: refused; written through what was lent: accepted
+shown : verdict (codes "fn main(): int { let x = 1; let r = &x; x = 2; give *r }") ≡ refused 1
+shown = refl
 
-round2 : Prog
-round2 = record { datas = (record { name = (100 ∷ []); ctors = (record { name = (68 ∷ []); fields = (int ∷ []) } ∷ []); last = ([]) } ∷ []); funs = (record { name = (109 ∷ 97 ∷ 105 ∷ 110 ∷ []); pars = ([]); ret = int; does = (body (cons-s (bind (97 ∷ []) (ctor (68 ∷ []) (cons-e (num 1) nil-e))) (cons-s (loop (num 0) (cons-s (bind (98 ∷ []) (var (97 ∷ []))) (cons-s (assign (97 ∷ []) (ctor (68 ∷ []) (cons-e (num 2) nil-e))) nil-s))) nil-s)) (give (num 0))) } ∷ []) }
+abbrev lent-on : List ℕ
+lent-on = codes "fn main(): int { let x = 1; let r = &mut x; *r = 2; give *r }"
 
-round2-ok : checks.accepts round2 ≡ true
-unfolding round2
-round2-ok = refl
+lent-on-accepted : verdict lent-on ≡ accepted
+lent-on-accepted = refl
 
-round2-is : brief round2 ≡ with1 (int-v 0) ([])
-unfolding round2 brief brief-of
-round2-is = refl
+lent-on-ends : ending lent-on ≡ ended (int-v 2) []
+unfolding within
+lent-on-ends = refl
 
-lent-read : reads (102 ∷ 110 ∷ 32 ∷ 109 ∷ 97 ∷ 105 ∷ 110 ∷ 40 ∷ 41 ∷ 58 ∷ 32 ∷ 105 ∷ 110 ∷ 116 ∷ 32 ∷ 123 ∷ 32 ∷ 108 ∷ 101 ∷ 116 ∷ 32 ∷ 120 ∷ 32 ∷ 61 ∷ 32 ∷ 49 ∷ 59 ∷ 32 ∷ 108 ∷ 101 ∷ 116 ∷ 32 ∷ 114 ∷ 32 ∷ 61 ∷ 32 ∷ 38 ∷ 109 ∷ 117 ∷ 116 ∷ 32 ∷ 120 ∷ 59 ∷ 32 ∷ 42 ∷ 114 ∷ 32 ∷ 61 ∷ 32 ∷ 50 ∷ 59 ∷ 32 ∷ 103 ∷ 105 ∷ 118 ∷ 101 ∷ 32 ∷ 42 ∷ 114 ∷ 32 ∷ 125 ∷ []) ≡ some lent
-unfolding lent
-lent-read = refl
+-- used after it was moved: refused, and it goes wrong
+abbrev moved : List ℕ
+moved = codes "data d = D(int); fn main(): int { let a = D(1); let b = a; give take a { D(x) { give x } } }"
+
+moved-refused : verdict moved ≡ refused 1
+moved-refused = refl
+
+moved-wrong : ending moved ≡ stopped wrong []
+unfolding within
+moved-wrong = refl
+
+-- lent and shown at once; a reference to what ends; a reference to what the caller has
+twice : verdict (codes "data d = D(int); fn f(x: mut d, y: ref d): int { give 0 } fn main(): int { let a = D(1); give f(&mut a, &a) }") ≡ refused 2
+twice = refl
+
+own : verdict (codes "data d = D(int); fn f(x: d): ref d { give &x } fn main(): int { give 0 }") ≡ refused 1
+own = refl
+
+back : verdict (codes "data d = D(int); fn f(x: ref d): ref d { give x } fn main(): int { give 0 }") ≡ accepted
+back = refl
+
+-- what a round moves, it puts back
+round : verdict (codes "data d = D(int); fn main(): int { let a = D(1); while 0 { let b = a; } give 0 }") ≡ refused 1
+round = refl
+
+round-back : verdict (codes "data d = D(int); fn main(): int { let a = D(1); while 0 { let b = a; a = D(2); } give 0 }") ≡ accepted
+round-back = refl
+
+-- data that is part of itself
+ring : verdict (codes "data d = D(d); fn main(): int { give 0 }") ≡ refused 0
+ring = refl
+
+-- no text
+unclosed : verdict (codes "fn main(): int { give 0 ") ≡ no-text
+unclosed = refl

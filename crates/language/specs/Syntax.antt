@@ -1,5 +1,5 @@
 -- Programs as trees.
-use mathlib.Core.List.{List, [], _∷_, _++_}
+use mathlib.Core.List.{List}
 use Prim.Native.Nat.{ℕ}
 use Rattle.language.specs.Base.{Lexeme}
 
@@ -11,7 +11,7 @@ pub data Ty : Type 0 where
   ref : Ty → Ty
   mut : Ty → Ty
 
--- op: 0 + 1 - 2 * 3 / 4 % 5 == 6 <. share x is &x, lend x is &mut x, load r is *r
+-- a number; a name; an operator (0 +, 1 -, 2 *, 3 /, 4 %, 5 ==, 6 <); C(e, ..); box e; f(e, ..); &x; &mut x; *r; get
 mutual
   pub data Expr : Type 0 where
     num : ℕ → Expr
@@ -35,6 +35,7 @@ pub data Access : Type 0 where
   view : Access
   edit : Access
 
+-- let x = e; x = e; *r = e; put e; if e {..} else {..}; while e {..}; take, view or edit x {..}; let x = open y; let x = inside y
 mutual
   pub data Stmt : Type 0 where
     bind : Lexeme → Expr → Stmt
@@ -51,6 +52,7 @@ mutual
     nil-s : Stmts
     cons-s : Stmt → Stmts → Stmts
 
+  -- C(x, ..) {..} for each constructor
   pub data Alts : Type 0 where
     no-alts : Alts
     alt : Lexeme → List Lexeme → Stmts → Alts → Alts
@@ -69,26 +71,30 @@ mutual
     no-arms : Arms
     arm : Lexeme → List Lexeme → Body → Arms → Arms
 
+-- a constructor of a data type
 pub record Ctor : Type 0 where
   pub name : Lexeme
   pub fields : List Ty
 
--- last: the function that's called when one is dropped; [] none
+-- a data type; last: the function that's called when one is dropped, [] where there is none
 pub record Data : Type 0 where
   pub name : Lexeme
   pub ctors : List Ctor
   pub last : Lexeme
 
+-- a parameter
 pub record Param : Type 0 where
   pub name : Lexeme
   pub ty : Ty
 
+-- a function: its parameters, the type of what it gives, its body
 pub record Fn : Type 0 where
   pub name : Lexeme
   pub pars : List Param
   pub ret : Ty
   pub does : Body
 
+-- in the order of the text
 pub record Prog : Type 0 where
   pub datas : List Data
   pub funs : List Fn
