@@ -1,0 +1,1 @@
+autocmd BufRead,BufNewFile *.own setfiletype own
