@@ -1,0 +1,5 @@
+use Rattle.soundness.proofs.never_wrong.Needs as need
+use Rattle.soundness.proofs.Whole.{never-wrong}
+
+pub returns : need.returns
+returns c = never-wrong

@@ -1,0 +1,118 @@
+-- Static: expressions keep names, types and loans of the names in scope; only flags change.
+use mathlib.Core.Bool.{Bool, true, false, _&&_}
+use mathlib.Core.List.{List, [], _∷_, _++_}
+use mathlib.Core.Option.{Option, some, none}
+use mathlib.Core.Path.{_≡_, refl, sym, _∙_, ap, subst}
+use Prim.Native.Nat.{suc}
+use lib.ListN.{length}
+use Rattle.language.specs.Base.{choose, if-some, Lexeme, same, only-if}
+use Rattle.language.specs.Syntax.{Ty, int, dat, box, ref, mut, Expr, num, var, op, ctor, boxed, call, share, lend, load, get-e, Exprs, Prog, nil-e, cons-e}
+use Rattle.language.specs.Checks.{Loan, Var, fn-named, home-of, types-of-pars, loan, same-ty, owned, Env, look, set-gone, is-free, readable, all-loans, typed, value, shared, Typed, there, expr, loadable, holds, args, with-ty}
+use Rattle.language.specs.Checks as ch
+use Rattle.soundness.proofs.Basics.{no-some, some-is, if-some-is, only-is, true-false, same-is}
+
+abbrev pub Like : Env → Env → Type 0
+Like [] [] = Unit {0}
+Like [] (w ∷ h) = ⊥
+Like (v ∷ g) [] = ⊥
+Like (v ∷ g) (w ∷ h) = (v .name ≡ w .name) × (v .ty ≡ w .ty) × (v .loans ≡ w .loans) × Like g h
+
+pub like-self : (g : Env) → Like g g
+like-self [] = tt
+like-self (v ∷ g) = (refl, refl, refl, like-self g)
+
+pub like-then : (f g h : Env) → Like f g → Like g h → Like f h
+like-then [] [] [] a b = tt
+like-then [] [] (w ∷ h) a b = absurd b
+like-then [] (v ∷ g) h a b = absurd a
+like-then (u ∷ f) [] h a b = absurd a
+like-then (u ∷ f) (v ∷ g) [] a b = absurd b
+like-then (u ∷ f) (v ∷ g) (w ∷ h) a b = (a .0 ∙ b .0, a .1 ∙ b .1, a .2 ∙ b .2, like-then f g h (a .3) (b .3))
+
+pub like-gone : (z : Bool) (g : Env) (x : Lexeme) → Like g (set-gone z g x)
+like-gone z [] x = tt
+like-gone z (v ∷ g) x = go (same (v .name) x) (like-gone z g x)
+  where
+    go : (y : Bool) → Like g (set-gone z g x) → Like (v ∷ g) (choose y (record { name = v .name; ty = v .ty; gone = z; loans = v .loans } ∷ g) (v ∷ set-gone z g x))
+    go true h = (refl, refl, refl, like-self g)
+    go false h = (refl, refl, refl, h)
+
+env-is : (g : Env) (t : Ty) (ls : List Loan) (h : Env) (r : Typed) → Like g h → typed t ls h ≡ some r → Like g (r .env)
+env-is g t ls h r l e = subst (λ z. Like g (z .env)) (some-is e) l
+
+value-like : (held : List Loan) (g : Env) (v : Var) (t : Ty) (r : Typed) → value held g v t ≡ some r → Like g (r .env)
+value-like held g v int r e = env-is g int [] g r (like-self g) (only-is _ _ r e .1)
+value-like held g v (dat d) r e = env-is g (dat d) [] (set-gone true g (v .name)) r (like-gone true g (v .name)) (only-is _ _ r e .1)
+value-like held g v (box t) r e = env-is g (box t) [] (set-gone true g (v .name)) r (like-gone true g (v .name)) (only-is _ _ r e .1)
+value-like held g v (ref t) r e = env-is g (ref t) (v .loans) g r (like-self g) (only-is _ _ r e .1)
+value-like held g v (mut t) r e = env-is g (mut t) (loan (v .name) true ∷ []) g r (like-self g) (only-is _ _ r e .1)
+
+shared-like : (held : List Loan) (g : Env) (v : Var) (t : Ty) (r : Typed) → shared held g v t ≡ some r → Like g (r .env)
+shared-like held g v int r e = env-is g (ref int) (loan (v .name) false ∷ []) g r (like-self g) (only-is _ _ r e .1)
+shared-like held g v (dat d) r e = env-is g (ref (dat d)) (loan (v .name) false ∷ []) g r (like-self g) (only-is _ _ r e .1)
+shared-like held g v (box t) r e = env-is g (ref (box t)) (loan (v .name) false ∷ []) g r (like-self g) (only-is _ _ r e .1)
+shared-like held g v (ref t) r e = absurd (no-some e)
+shared-like held g v (mut t) r e = env-is g (ref t) (loan (v .name) false ∷ []) g r (like-self g) (only-is _ _ r e .1)
+
+with-is : (o : Option Typed) (t : Ty) (f : List Loan → Env → Option Typed) (r : Typed) → with-ty o t f ≡ some r → (y : Typed) × (o ≡ some y) × (f (y .loans) (y .env) ≡ some r)
+with-is none t f r e = absurd (no-some e)
+with-is (some y) t f r e = (y, refl, only-is (same-ty (y .ty) t) (f (y .loans) (y .env)) r e .1)
+
+mutual
+  pub expr-like : (q : Prog) (held : List Loan) (g : Env) (e : Expr) (r : Typed) → expr q held g e ≡ some r → Like g (r .env)
+  expr-like q held g (num k) r h = env-is g int [] g r (like-self g) h
+  expr-like q held g (var x) r h = let y = if-some-is (there g x) (λ v. value held g v (v .ty)) r h in value-like held g (y .0) (y .0 .ty) r (y .2)
+  expr-like q held g (op o a d) r h =
+      let y = with-is (expr q held g a) int (λ ls k. with-ty (expr q held k d) int (λ ms i. typed int [] i)) r h in
+      let z = with-is (expr q held (y .0 .env) d) int (λ ms i. typed int [] i) r (y .2) in
+      like-then g (y .0 .env) (r .env) (expr-like q held g a (y .0) (y .1)) (env-is (y .0 .env) int [] (z .0 .env) r (expr-like q held (y .0 .env) d (z .0) (z .1)) (z .2))
+  expr-like q held g (ctor k es) r h =
+      let y = if-some-is (home-of (q .datas) k) (λ hm. if-some (args q held g es (hm .ctor1 .fields)) (λ r2. typed (dat (hm .data1 .name)) [] (r2 .env))) r h in
+      let z = if-some-is (args q held g es (y .0 .ctor1 .fields)) (λ r2. typed (dat (y .0 .data1 .name)) [] (r2 .env)) r (y .2) in
+      env-is g (dat (y .0 .data1 .name)) [] (z .0 .env) r (args-like q held g es (y .0 .ctor1 .fields) (z .0) (z .1)) (z .2)
+  expr-like q held g (boxed a) r h =
+      let y = if-some-is (expr q held g a) (λ r2. only-if (owned (r2 .ty)) (typed (box (r2 .ty)) [] (r2 .env))) r h in
+      env-is g (box (y .0 .ty)) [] (y .0 .env) r (expr-like q held g a (y .0) (y .1)) (only-is (owned (y .0 .ty)) (typed (box (y .0 .ty)) [] (y .0 .env)) r (y .2) .1)
+  expr-like q held g (call f es) r h =
+      let y = if-some-is (fn-named (q .funs) f) (λ k. if-some (args q held g es (types-of-pars (k .pars))) (λ r2. typed (k .ret) (holds (k .ret) (r2 .loans)) (r2 .env))) r h in
+      let z = if-some-is (args q held g es (types-of-pars (y .0 .pars))) (λ r2. typed (y .0 .ret) (holds (y .0 .ret) (r2 .loans)) (r2 .env)) r (y .2) in
+      env-is g (y .0 .ret) (holds (y .0 .ret) (z .0 .loans)) (z .0 .env) r (args-like q held g es (types-of-pars (y .0 .pars)) (z .0) (z .1)) (z .2)
+  expr-like q held g (share x) r h = let y = if-some-is (there g x) (λ v. shared held g v (v .ty)) r h in shared-like held g (y .0) (y .0 .ty) r (y .2)
+  expr-like q held g (lend x) r h = let y = if-some-is (there g x) (λ v. only-if (owned (v .ty) && is-free (held ++ all-loans g) x) (typed (mut (v .ty)) (loan x true ∷ []) g)) r h in env-is g (mut (y .0 .ty)) (loan x true ∷ []) g r (like-self g) (only-is (owned (y .0 .ty) && is-free (held ++ all-loans g) x) (typed (mut (y .0 .ty)) (loan x true ∷ []) g) r (y .2) .1)
+  expr-like q held g (load x) r h = let y = if-some-is (there g x) (λ v. only-if (loadable (v .ty) && readable (held ++ all-loans g) x) (typed int [] g)) r h in env-is g int [] g r (like-self g) (only-is (loadable (y .0 .ty) && readable (held ++ all-loans g) x) (typed int [] g) r (y .2) .1)
+  expr-like q held g get-e r h = env-is g int [] g r (like-self g) h
+
+  pub args-like : (q : Prog) (held : List Loan) (g : Env) (es : Exprs) (ts : List Ty) (r : Typed) → args q held g es ts ≡ some r → Like g (r .env)
+  args-like q held g nil-e [] r h = env-is g int [] g r (like-self g) h
+  args-like q held g nil-e (t ∷ ts) r h = absurd (no-some h)
+  args-like q held g (cons-e e es) [] r h = absurd (no-some h)
+  args-like q held g (cons-e e es) (t ∷ ts) r h =
+      let y = with-is (expr q held g e) t (λ ls k. if-some (args q (ls ++ held) k es ts) (λ r2. typed int (ls ++ r2 .loans) (r2 .env))) r h in
+      let z = if-some-is (args q (y .0 .loans ++ held) (y .0 .env) es ts) (λ r2. typed int (y .0 .loans ++ r2 .loans) (r2 .env)) r (y .2) in
+      like-then g (y .0 .env) (r .env) (expr-like q held g e (y .0) (y .1)) (env-is (y .0 .env) int (y .0 .loans ++ z .0 .loans) (z .0 .env) r (args-like q (y .0 .loans ++ held) (y .0 .env) es ts (z .0) (z .1)) (z .2))
+
+-- environments that differ by flags
+pub look-name : (g : ch.Env) (x : Lexeme) (v : Var) → look g x ≡ some v → v .name ≡ x
+look-name [] x v e = absurd (no-some e)
+look-name (u ∷ g) x v e = go (same (u .name) x) (same-is (u .name) x) e (look-name g x v)
+  where
+    go : (o : Bool) → (o ≡ true → u .name ≡ x) → choose o (some u) (look g x) ≡ some v → (look g x ≡ some v → v .name ≡ x) → v .name ≡ x
+    go true h k r = ap (λ z. z .name) (sym (some-is k)) ∙ h refl
+    go false h k r = r k
+
+pub like-length : (g h : ch.Env) → Like g h → length g ≡ length h
+like-length [] [] l = refl
+like-length [] (w ∷ h) l = absurd l
+like-length (v ∷ g) [] l = absurd l
+like-length (v ∷ g) (w ∷ h) l = ap suc (like-length g h (l .3))
+
+pub fresh-like : (g h : ch.Env) (x : Lexeme) → Like g h → look g x ≡ none → look h x ≡ none
+fresh-like [] [] x l e = refl
+fresh-like [] (w ∷ h) x l e = absurd l
+fresh-like (v ∷ g) [] x l e = absurd l
+fresh-like (v ∷ g) (w ∷ h) x l e = go (same (v .name) x) (same (w .name) x) (ap (λ z. same z x) (l .0)) e (fresh-like g h x (l .3))
+  where
+    go : (a z : Bool) → a ≡ z → choose a (some v) (look g x) ≡ none → (look g x ≡ none → look h x ≡ none) → choose z (some w) (look h x) ≡ none
+    go true z s k r = absurd (no-some (sym k))
+    go false true s k r = absurd (true-false (sym s))
+    go false false s k r = r k

@@ -1,0 +1,201 @@
+-- The step for let x = open y: what is in a box becomes a name, the box ends.
+use mathlib.Core.Bool.{true, false, _&&_}
+use mathlib.Core.List.{List, [], _∷_, _++_}
+use mathlib.Core.Logic.{inl, inr}
+use mathlib.Core.Option.{Option, some, none}
+use mathlib.Core.Path.{_≡_, refl, sym, _∙_, ap, subst}
+use Prim.Native.Nat.{ℕ, zero, suc, _≤_}
+use native.Mathlib.Omega.{arith}
+use lib.ListN.{length}
+use Rattle.language.specs.Base.{choose, from-option, if-some, at-place, set-at, Lexeme, only-if}
+use Rattle.language.specs.Syntax.{Ty, int, dat, box, ref, mut, Data, Prog, open-s}
+use Rattle.language.specs.Checks.{Var, owned, look, fresh, set-gone, enter, is-free, all-loans, boxed-in}
+use Rattle.language.specs.Checks as ch
+use Rattle.language.specs.Meaning.{Value, Root, State, Limits, Res, here, root-of, read-at, exec, hole, with-roots, adds-root, ends-box, write-at, box-of}
+use Rattle.language.specs.Meaning as me
+use Rattle.soundness.proofs.Basics.{no-some, some-is, if-some-is, only-is, true-false, and-left, and-right}
+use Rattle.soundness.proofs.memory.Trees.{Tr, num, con, bx, void, flat, Stored, Typed}
+use Rattle.soundness.proofs.loans.Stack.{Ln, Sh, own, pts, inert, own-on-top, inert-on-top, off-top}
+use Rattle.soundness.proofs.world.Worlds.{rooted, flying, En, shapes, Content, Idle, weigh-at, World, Suits, Match, Scene}
+use Rattle.soundness.proofs.world.Ops.{typed-owned, words-pos, land, part-en, shell, end-box-top, reads, ended-under}
+use Rattle.soundness.proofs.world.Swap.{Wrote, writes, out-en}
+use Rattle.soundness.proofs.world.Lands.{land-mid}
+use Rattle.soundness.proofs.statics.Likes.{like-gone, fresh-like}
+use Rattle.soundness.proofs.statics.Rules.{there-is}
+use Rattle.soundness.proofs.statics.Scopes.{fresh-none}
+use Rattle.soundness.proofs.frames.Names.{entry-of}
+use Rattle.soundness.proofs.frames.Splits.{Swapped, move-name}
+use Rattle.soundness.proofs.Claims.{Safe, safe-need, After-exec}
+use Rattle.soundness.proofs.stmts.Stores.{typed-there}
+
+-- a box in flight, under the box that's to end: what's in it, in flight
+open-shell : (ds : List Data) (e : En) (N : List En) (r w : ℕ) (x : Tr) (t : Ty) (T : List Tr) (s : State) (v : Value) → e .at ≡ flying v → 1 ≤ w → Stored (s .roots) (bx r w x) → Typed ds x t → World ds (e ∷ N) (bx r w x ∷ T) s → World ds (shell r w ∷ (part-en x t ∷ N)) (void ∷ (x ∷ T)) s
+open-shell ds e N r w x t T s v at-is le st ty wo = record {
+  sane = inert-on-top (own t ∷ shapes N) (own-on-top (shapes N) (off-top (e .sh) (shapes N) (wo .sane)) t);
+  fine = ((refl, (flat x, st .0, idle w le)), ((refl, st .1, typed-owned ds x t ty, inl ty), wo .fine .1));
+  weights = λ f. (let a = wo .weights f in let a2 : weigh-at f (e .at) ≡ 0 = ap (weigh-at f) at-is in omega arith);
+  counted = wo .counted;
+}
+  where
+    idle : (k : ℕ) → 1 ≤ k → Idle (rooted r k) (flat x)
+    idle zero h = absurd (omega arith)
+    idle (suc k) h = tt
+
+put-length : {A : Type 0} (xs : List A) (i : ℕ) (v : A) → length (set-at xs i v) ≡ length xs
+put-length [] i v = refl
+put-length (x ∷ xs) zero v = refl
+put-length (x ∷ xs) (suc i) v = ap suc (put-length xs i v)
+
+ended-length : (s : State) (r : ℕ) → length (ends-box s r .roots) ≡ length (s .roots)
+ended-length s r = go (at-place (s .roots) r)
+  where
+    go : (o : Option Root) → length (from-option o s (λ x. me.with-classes (from-option o s (λ y. with-roots s (set-at (s .roots) r (record { live = false; val = hole; words = y .words })))) (me.count-out (s .classes) (x .words))) .roots) ≡ length (s .roots)
+    go none = refl
+    go (some x) = put-length (s .roots) r (record { live = false; val = hole; words = x .words })
+
+root-read : (s : State) (r : ℕ) (v : Value) → read-at s (here r) ≡ some v → (x : Root) × (at-place (s .roots) r ≡ some x)
+root-read s r v e = go (at-place (s .roots) r) e
+  where
+    go : (o : Option Root) → if-some (if-some o (λ x. choose (x .live) (some x) none)) (λ x. some (x .val)) ≡ some v → (x : Root) × (o ≡ some x)
+    go none e1 = absurd (no-some e1)
+    go (some x) e1 = (x, refl)
+
+-- what's in a box reads the same before its name's root was emptied
+box-reads : (ds : List Data) (s s2 : State) (r i w : ℕ) (v : Value) (x : Tr) (t : Ty) → read-at s (here r) ≡ some v → write-at s (here r) hole ≡ some s2 → Typed ds x t → at-place (s2 .roots) i ≡ some (record { live = true; val = flat x; words = w }) → read-at s (here i) ≡ some (flat x)
+box-reads ds s s2 r i w v x t rd wr ty at2 = reads s i (flat x) w (sym (wo .written .others i apart) ∙ at3)
+  where
+    wo : Wrote s (here r) hole
+    wo = writes s (here r) hole v rd
+
+    s-is : s2 ≡ wo .s2
+    s-is = some-is (sym wr ∙ wo .is)
+
+    at3 : at-place (wo .s2 .roots) i ≡ some (record { live = true; val = flat x; words = w })
+    at3 = ap (λ z. at-place (z .roots) i) (sym s-is) ∙ at2
+
+    rr : (y : Root) × (at-place (s .roots) r ≡ some y)
+    rr = root-read s r v rd
+
+    apart : r ≡ i → ⊥
+    apart e =
+        let a : record { live = true; val = hole; words = rr .0 .words } ≡ record { live = true; val = flat x; words = w } = some-is (sym (wo .written .there1 (rr .0) (rr .1)) ∙ ap (at-place (wo .s2 .roots)) e ∙ at3) in
+        let h : hole ≡ flat x = ap (λ (z : Root). z .val) a in
+        no-some (ap me.there h ∙ typed-there ds x t ty)
+
+pub boxed-is : (t u : Ty) → boxed-in t ≡ some u → t ≡ box u
+boxed-is int u e = absurd (no-some e)
+boxed-is (dat d) u e = absurd (no-some e)
+boxed-is (box t) u e = ap box (some-is e)
+boxed-is (ref t) u e = absurd (no-some e)
+boxed-is (mut t) u e = absurd (no-some e)
+
+suits-owned : (u : Ty) (sh : Sh) → Suits (box u) sh → owned u ≡ true
+suits-owned u (own t) h = ap owned (h .0) ∙ h .1
+suits-owned u (pts true t a ls) h = absurd (let z : _≡_ {A = ℕ} 0 1 = cc in omega arith)
+suits-owned u (pts false t a ls) h = absurd (let z : _≡_ {A = ℕ} 0 1 = cc in omega arith)
+suits-owned u inert h = absurd h
+
+-- a tree of a box's type
+pub is-box1 : (ds : List Data) (x : Tr) (u : Ty) → Typed ds x (box u) → (r : ℕ) × (w : ℕ) × (y : Tr) × (x ≡ bx r w y) × (1 ≤ w) × Typed ds y u
+is-box1 ds (num k) u ty = absurd ty
+is-box1 ds (con k ts) u ty = absurd ty
+is-box1 ds (bx r w y) u ty = (r, w, y, refl, subst (λ z. 1 ≤ z) (sym (ty .0)) (words-pos ds u), ty .1)
+is-box1 ds void u ty = absurd ty
+
+-- let x = open y
+pub open-step : (q : Prog) (m : Limits) (u : ℕ) (C : List En) (ln : List Ln) (g g2 : ch.Env) (d : me.Env) (F : List En) (T : List Tr) (s : State) (x y : Lexeme) → ch.stmt q g (open-s x y) ≡ some g2 → Scene C ln [] g d [] F → World (q .datas) (F ++ C) T s → Safe (After-exec q C ln g2 d (s .under)) (exec (suc u) m q d (open-s x y) s)
+unfolding me.eval
+open-step q m u C ln g g2 d F T s x y e sc w =
+    safe-need P s (root-of d y) f1 (sw .root) (sw .named)
+    (safe-need P s (read-at s (here (sw .root))) (f2 (sw .root)) (flat (sw .old)) (sw .reads-old)
+    (safe-need P s (box-of (flat (sw .old))) (f3 (sw .root)) i (ap (λ z. box-of (flat z)) (bo .3))
+    (safe-need P s (read-at s (here i)) (f4 (sw .root) i) (flat cont) (box-reads (q .datas) s s2 (sw .root) i wd (flat (sw .old)) cont tb (sw .reads-old) (sw .writes-new) (bo .5) (st .0))
+    (safe-need P s (write-at s (here (sw .root)) hole) (f5 i (flat cont)) s2 (sw .writes-new) after))))
+  where
+    P : me.Env → State → Type 0
+    P = After-exec q C ln g2 d (s .under)
+
+    f5 : ℕ → Value → State → Res me.Env
+    f5 k v t = me.ok (record { name = x; root = length (t .roots) } ∷ d) (adds-root (ends-box t k) v 0)
+
+    f4 : ℕ → ℕ → Value → Res me.Env
+    f4 r k v = me.need s (write-at s (here r) hole) (f5 k v)
+
+    f3 : ℕ → ℕ → Res me.Env
+    f3 r k = me.need s (read-at s (here k)) (f4 r k)
+
+    f2 : ℕ → Value → Res me.Env
+    f2 r v = me.need s (box-of v) (f3 r)
+
+    f1 : ℕ → Res me.Env
+    f1 r = me.need s (read-at s (here r)) (f2 r)
+
+    a1 : (v : Var) × (ch.there g y ≡ some v) × (if-some (boxed-in (v .ty)) (λ t. only-if (fresh g x && is-free (all-loans g) y) (some (enter (set-gone true g y) x t []))) ≡ some g2)
+    a1 = if-some-is (ch.there g y) (λ v. if-some (boxed-in (v .ty)) (λ t. only-if (fresh g x && is-free (all-loans g) y) (some (enter (set-gone true g y) x t [])))) g2 e
+
+    v : Var
+    v = a1 .0
+
+    a2 : (t : Ty) × (boxed-in (v .ty) ≡ some t) × (only-if (fresh g x && is-free (all-loans g) y) (some (enter (set-gone true g y) x t [])) ≡ some g2)
+    a2 = if-some-is (boxed-in (v .ty)) (λ t. only-if (fresh g x && is-free (all-loans g) y) (some (enter (set-gone true g y) x t []))) g2 (a1 .2)
+
+    tb : Ty
+    tb = a2 .0
+
+    a3 : (fresh g x && is-free (all-loans g) y ≡ true) × (some (enter (set-gone true g y) x tb []) ≡ some g2)
+    a3 = only-is (fresh g x && is-free (all-loans g) y) (some (enter (set-gone true g y) x tb [])) g2 (a2 .2)
+
+    th : (look g y ≡ some v) × (v .gone ≡ false)
+    th = there-is g y v (a1 .1)
+
+    ty-is : v .ty ≡ box tb
+    ty-is = boxed-is (v .ty) tb (a2 .1)
+
+    ow : owned tb ≡ true
+    ow = let en = entry-of C ln g d F y v (sc .names) (th .0) in suits-owned tb (en .en .sh) (subst (λ z. Suits z (en .en .sh)) ty-is (en .type))
+
+    sw : Swapped (q .datas) C ln g d [] y v true void s
+    sw = move-name (q .datas) C ln [] g d [] F y v T s sc (th .0) (ap owned ty-is ∙ ow) (and-right (fresh g x) (is-free (all-loans g) y) (a3 .0)) w
+
+    s2 : State
+    s2 = sw .s2
+
+    there1 : Content (q .datas) (v .gone) (v .ty) (sw .old) → Typed (q .datas) (sw .old) (v .ty)
+    there1 (inl ty) = ty
+    there1 (inr k) = absurd (true-false (sym (k .0) ∙ th .1))
+
+    bo : (r : ℕ) × (k : ℕ) × (z : Tr) × (sw .old ≡ bx r k z) × (1 ≤ k) × Typed (q .datas) z tb
+    bo = is-box1 (q .datas) (sw .old) tb (subst (Typed (q .datas) (sw .old)) ty-is (there1 (sw .content)))
+
+    i : ℕ
+    i = bo .0
+
+    wd : ℕ
+    wd = bo .1
+
+    cont : Tr
+    cont = bo .2
+
+    st : Stored (s2 .roots) (bx i wd cont)
+    st = subst (Stored (s2 .roots)) (bo .3) (sw .stored)
+
+    w1 : World (q .datas) (out-en (sw .old) (v .gone) (v .ty) ∷ (sw .F ++ C)) (bx i wd cont ∷ sw .T) s2
+    w1 = subst (λ z. World (q .datas) (out-en (sw .old) (v .gone) (v .ty) ∷ (sw .F ++ C)) (z ∷ sw .T) s2) (bo .3) (sw .world)
+
+    w2 : (U : List Tr) × World (q .datas) (part-en cont tb ∷ (sw .F ++ C)) U (ends-box s2 i)
+    w2 = end-box-top (q .datas) (part-en cont tb ∷ (sw .F ++ C)) i wd (void ∷ (cont ∷ sw .T)) s2 (bo .4) (open-shell (q .datas) (out-en (sw .old) (v .gone) (v .ty)) (sw .F ++ C) i wd cont tb (sw .T) s2 (flat (sw .old)) refl (bo .4) st (bo .5) w1)
+
+    s3 : State
+    s3 = ends-box s2 i
+
+    after : P (record { name = x; root = length (s2 .roots) } ∷ d) (adds-root s3 (flat cont) 0)
+    after = record {
+      newer = record { name = x; root = length (s2 .roots) } ∷ [];
+      grown = refl;
+      F = land (part-en cont tb) (length (s3 .roots)) ∷ sw .F;
+      T = w2 .0;
+      names = subst (λ z. Match (length C) ln z (record { name = x; root = length (s2 .roots) } ∷ d) (land (part-en cont tb) (length (s3 .roots)) ∷ sw .F)) (some-is (a3 .1))
+          (record { name = refl; place = ap (λ z. rooted z 0) (ended-length s2 i); flag = refl; type = (refl, ow); loans = λ l k. absurd k; fresh = fresh-like g (set-gone true g y) x (like-gone true g y) (fresh-none g x (and-left (fresh g x) (is-free (all-loans g) y) (a3 .0))) }, sw .names);
+      world = land-mid (q .datas) [] (part-en cont tb) (flat cont) (sw .F ++ C) (w2 .0) s3 refl (w2 .1);
+      under = ended-under s2 i ∙ sw .under;
+    }
