@@ -1,6 +1,7 @@
 -- The proofs, each file or folder after those that it rests on.
 pub mod Basics
 pub mod fuel
+pub mod numbers
 pub mod memory
 pub mod loans
 pub mod world

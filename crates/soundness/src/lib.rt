@@ -1,4 +1,6 @@
 ghost use Rattle.language.specs.Says.{«Never-wrong», «Nothing-left», «Enough-fuel», «More-fuel»};
+ghost use Rattle.soundness.specs.Fuel.{«Fuel-for-any»};
+ghost use Rattle.soundness.specs.Numbers.{«Shown-grows», «Words-kept», «Shown-small»};
 
 // Each function here is a theorem: its contract is the statement, and there is nothing to compute.
 
@@ -23,9 +25,37 @@ pub fn enough_fuel() -> u8
     0
 }
 
+// The same for every program, accepted or not.
+pub fn fuel_for_any() -> u8
+    ensures { λ _. ⌜ «Fuel-for-any» ⌝ }
+{
+    0
+}
+
 // More fuel doesn't change a result that isn't out of fuel.
 pub fn more_fuel() -> u8
     ensures { λ _. ⌜ «More-fuel» ⌝ }
+{
+    0
+}
+
+// What is shown only grows: for every program, every function of the meaning, from every state, also where it stops.
+pub fn shown_grows() -> u8
+    ensures { λ _. ⌜ «Shown-grows» ⌝ }
+{
+    0
+}
+
+// Every number of a program that was read from a text is below 2^64: what each function of the meaning keeps.
+pub fn words_kept() -> u8
+    ensures { λ _. ⌜ «Words-kept» ⌝ }
+{
+    0
+}
+
+// So what such a program gives is below 2^64, and so is what it shows, but for the mark 2^64 of 'get'.
+pub fn shown_small() -> u8
+    ensures { λ _. ⌜ «Shown-small» ⌝ }
 {
     0
 }

@@ -12,6 +12,7 @@ use Rattle.language.specs.Syntax.{Expr, num, var, op, ctor, boxed, call, share,
 use Rattle.language.specs.Checks.{fn-named, w-main}
 use Rattle.language.specs.Meaning.{Loc, Value, int-v, con-v, Values, State, Limits, out-of-fuel, Res, stop, Shape, here, list-of, eval, evals, calls, bodies, tails, by-shape, execs, block, exec, by-alt, ends, drops, lasts, parts-of, drops-all, run, blank, box-v, ref-v, hole, nil-v, cons-v, adds-root, moves, ok, Env, shape, roots-in, makes-box, newer, parts, Found, FoundArm, find-alt, find-arm}
 use Rattle.language.specs.Says.{Enough-fuel}
+use Rattle.soundness.specs.Fuel.{Fuel-for-any}
 use Rattle.soundness.proofs.fuel.Kept.{≼-trans, write-at-keeps, taken-keeps, kill-keeps, ends-box-keeps, roots-in-keeps}
 use Rattle.soundness.proofs.fuel.Halting.{Fine, fine-ok, fine-stop, Halts, at-once, ok-halts, step, weaken, then-halts, need-halts, choose-halts, Room, Less, less-room, lower-room, turn-halts, call-under, drop-under, room-by}
 
@@ -167,7 +168,7 @@ not-late (fine-ok h) s e = grind arith
 not-late (fine-stop h) s e = h (cc)
 
 -- of any program, accepted or not
-pub fuel-for-any : (m : Limits) (q : Prog) (ins : List ℕ) → (u : ℕ) × ((w : ℕ) (s : State) → u ≤ w → run w m q ins ≡ stop out-of-fuel s → ⊥)
+pub fuel-for-any : Fuel-for-any
 fuel-for-any m q ins = let x = run-halts m q ins in (x .with-fuel, λ w s l e. not-late (x .fine) s (sym (x .settled w l) ∙ e))
 
 pub enough-fuel : Enough-fuel

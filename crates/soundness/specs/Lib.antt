@@ -1,0 +1,3 @@
+-- What the theorems of this crate say.
+pub mod Fuel
+pub mod Numbers
