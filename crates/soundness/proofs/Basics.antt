@@ -8,6 +8,7 @@ use Prim.Native.Nat.{ℕ, zero, suc, _<_}
 use native.Mathlib.Omega.{arith}
 use lib.Dec.{eqb, T, eqb→eq, eqb-refl}
 use Rattle.language.specs.Base.{if-some, Lexeme, same, only-if, each-of}
+use Rattle.soundness.specs.Borrows.{In}
 
 pub no-some : {A : Type 0} {x : A} → none ≡ some x → ⊥
 no-some e = let z : _≡_ {A = ℕ} 0 1 = cc in omega arith
@@ -22,10 +23,6 @@ if-some-is (some x) f y e = (x, refl, e)
 pub append-nil : {A : Type 0} (xs : List A) → xs ++ [] ≡ xs
 append-nil [] = refl
 append-nil (x ∷ xs) = ap (λ z. x ∷ z) (append-nil xs)
-
-abbrev pub In : {A : Type 0} → A → List A → Type 0
-In x [] = ⊥
-In x (y ∷ ys) = (x ≡ y) ⊎ In x ys
 
 pub bool-case : (x : Bool) → (x ≡ true) ⊎ (x ≡ false)
 bool-case true = inl refl

@@ -10,15 +10,17 @@ use Rattle.language.specs.Base.{choose, from-option}
 use Rattle.language.specs.Syntax.{int, Fn, Prog, Param}
 use Rattle.language.specs.Checks.{fn-named, types-of-pars, same-ty}
 use Rattle.language.specs.Checks as ch
-use Rattle.language.specs.Meaning.{Root, Limits, need, calls, run, blank}
+use Rattle.language.specs.Meaning.{Root, need, calls, blank}
 use Rattle.language.specs.Meaning as me
 use Rattle.language.specs.Says.{«Never-wrong», «Nothing-left», live-roots}
+use Rattle.soundness.specs.Invariant.{total, is-box, World}
+use Rattle.soundness.specs.Frames.{Flown, nothing}
+use Rattle.soundness.specs.Preserved.{Safe, After-call, Invariant-kept, Run-safe}
 use Rattle.soundness.proofs.Basics.{true-false, and-left, and-right}
-use Rattle.soundness.proofs.world.Worlds.{total, is-box, World, Flown, nothing}
 use Rattle.soundness.proofs.world.Ops.{pop-int}
 use Rattle.soundness.proofs.statics.Rules.{same-ty-is}
 use Rattle.soundness.proofs.statics.Accepted.{okay, fns-ok}
-use Rattle.soundness.proofs.Claims.{Safe, After-call, All, all-zero}
+use Rattle.soundness.proofs.Claims.{all-zero}
 use Rattle.soundness.proofs.drops.Drops.{drops-all-suc, ends-suc, parts-suc, drops-suc}
 use Rattle.soundness.proofs.drops.Lasts.{lasts-suc}
 use Rattle.soundness.proofs.exprs.Args.{evals-suc}
@@ -30,7 +32,7 @@ use Rattle.soundness.proofs.calls.Bodies.{bodies-suc}
 use Rattle.soundness.proofs.calls.Calls.{calls-suc}
 use Rattle.soundness.proofs.calls.Step.{tails-suc}
 
-pub all-ok : (q : Prog) (m : Limits) → ch.accepts q ≡ true → (u : ℕ) → All q m u
+pub all-ok : Invariant-kept
 all-ok q m o zero = all-zero q m
 all-ok q m o (suc u) = let h = all-ok q m o u in record {
   eval-ok = eval-suc q m u o h;
@@ -62,7 +64,7 @@ main-fn q (some f) e = (f, refl, no-pars (f .pars) (and-left (eqb (length (f .pa
 first-world : (q : Prog) (ins : List ℕ) → World (q .datas) [] [] (blank ins)
 first-world q ins = record { sane = record { apart = tt; homed = tt }; fine = tt; weights = λ f. refl; counted = record { by-size = λ k. refl; in-all = refl } }
 
-pub run-ok : (u : ℕ) (m : Limits) (q : Prog) (ins : List ℕ) → ch.accepts q ≡ true → Safe (After-call q [] [] int 0) (run u m q ins)
+pub run-ok : Run-safe
 unfolding need
 run-ok u m q ins o =
     let mn = main-fn q (fn-named (q .funs) ch.w-main) (okay q o .main1) in

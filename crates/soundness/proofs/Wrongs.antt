@@ -1,10 +1,9 @@
 -- Programs that go wrong, each refused: were the rule that is named above it weaker, it would be accepted, and Never-wrong would be false.
 use mathlib.Core.Path.{_≡_, refl}
 use mathlib.Core.Bool.{Bool, true, false}
-use mathlib.Core.List.{List, [], _∷_}
-use Prim.Native.Nat.{ℕ}
+use mathlib.Core.List.{[], _∷_}
 use Rattle.language.specs.Base.{Lexeme}
-use Rattle.language.specs.Syntax.{int, dat, ref, Expr, num, var, ctor, call, share, load, nil-e, cons-e, view, Stmt, bind, assign, put-s, loop, match-s, Stmts, nil-s, cons-s, no-alts, alt, body, give, Ctor, Data, Param, Fn, Prog}
+use Rattle.language.specs.Syntax.{int, dat, ref, Expr, num, var, ctor, call, share, load, nil-e, cons-e, view, Stmt, bind, assign, put-s, loop, match-s, Stmts, nil-s, cons-s, no-alts, alt, body, give, Data, Fn, Prog}
 use Rattle.language.specs.Checks as checks
 use Rattle.language.specs.Meaning.{eval, then, need, turn, goes-under, Value, Stop, wrong, out-of-fuel, no-heap, no-stack, no-turns, Res, stop, run}
 use Rattle.language.specs.Meaning as meaning

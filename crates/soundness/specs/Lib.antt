@@ -1,3 +1,8 @@
 -- What the theorems of this crate say.
 pub mod Fuel
 pub mod Numbers
+pub mod Trees
+pub mod Borrows
+pub mod Invariant
+pub mod Frames
+pub mod Preserved

@@ -1,5 +1,6 @@
 ghost use Rattle.language.specs.Says.{«Never-wrong», «Nothing-left», «Enough-fuel», «More-fuel»};
 ghost use Rattle.soundness.specs.Fuel.{«Fuel-for-any»};
+ghost use Rattle.soundness.specs.Preserved.{«Invariant-kept»};
 ghost use Rattle.soundness.specs.Numbers.{«Shown-grows», «Words-kept», «Shown-small»};
 
 // Each function here is a theorem: its contract is the statement, and there is nothing to compute.
@@ -35,6 +36,14 @@ pub fn fuel_for_any() -> u8
 // More fuel doesn't change a result that isn't out of fuel.
 pub fn more_fuel() -> u8
     ensures { λ _. ⌜ «More-fuel» ⌝ }
+{
+    0
+}
+
+// What evaluating each kind of piece keeps, at every fuel: values have their types, references lead to a place of their
+// type, what isn't gone is there, every live root is held once.
+pub fn invariant_kept() -> u8
+    ensures { λ _. ⌜ «Invariant-kept» ⌝ }
 {
     0
 }

@@ -10,12 +10,14 @@ use Rattle.language.specs.Syntax.{Prog, body}
 use Rattle.language.specs.Checks as ch
 use Rattle.language.specs.Meaning.{Value, State, Limits, Res, tails, execs, ends, newer}
 use Rattle.language.specs.Meaning as me
+use Rattle.soundness.specs.Invariant.{shapes, World}
+use Rattle.soundness.specs.Frames.{Named, No-refs}
+use Rattle.soundness.specs.Preserved.{Safe, After-give, After-exec, After-end, Bodies-ok, All}
 use Rattle.soundness.proofs.Basics.{true-false}
-use Rattle.soundness.proofs.world.Worlds.{shapes, World, Named, No-refs}
 use Rattle.soundness.proofs.statics.Scopes.{match-distinct, grows-lent}
 use Rattle.soundness.proofs.statics.Grows.{stmts-grows}
 use Rattle.soundness.proofs.frames.Parted.{newer-is, named-parted}
-use Rattle.soundness.proofs.Claims.{Safe, safe-then, After-give, After-exec, After-end, Bodies-ok, All}
+use Rattle.soundness.proofs.Claims.{safe-then}
 use Rattle.soundness.proofs.stmts.Blocks.{no-refs-under}
 
 pub bodies-suc : (q : Prog) (m : Limits) (u : ℕ) → ch.accepts q ≡ true → All q m u → Bodies-ok q m (suc u)

@@ -13,13 +13,15 @@ use Rattle.language.specs.Checks.{Var, types-of-pars, owned, look, enter, pars-
 use Rattle.language.specs.Checks as ch
 use Rattle.language.specs.Meaning.{Value, Values, State, Limits, list-of, with-under, bodies, append, nil-v, cons-v, adds-root, roots-in, names-in, names-of, frame}
 use Rattle.language.specs.Meaning as me
-use Rattle.soundness.proofs.Basics.{no-some, some-is, append-nil, In, bool-case, true-false, and-left, and-right, or-case, same-is, same-self, in-left, in-right, not-true}
-use Rattle.soundness.proofs.memory.Trees.{Tr}
-use Rattle.soundness.proofs.loans.Stack.{Ln, lns}
-use Rattle.soundness.proofs.world.Worlds.{En, World, Suits, Match, Flight, all-lns, Flown, nothing, then-one, Named}
+use Rattle.soundness.specs.Borrows.{In, Ln, lns}
+use Rattle.soundness.specs.Trees.{Tr}
+use Rattle.soundness.specs.Invariant.{En, World}
+use Rattle.soundness.specs.Frames.{Suits, Match, Flight, all-lns, Flown, nothing, then-one, Named}
+use Rattle.soundness.specs.Preserved.{After-call, After-give, Calls-ok, All}
+use Rattle.soundness.proofs.Basics.{no-some, some-is, append-nil, bool-case, true-false, and-left, and-right, or-case, same-is, same-self, in-left, in-right, not-true}
 use Rattle.soundness.proofs.world.Ops.{world-same, land}
 use Rattle.soundness.proofs.world.Lands.{land-mid}
-use Rattle.soundness.proofs.Claims.{safe-need, safe-turn, safe-under, After-call, After-give, Calls-ok, All}
+use Rattle.soundness.proofs.Claims.{safe-need, safe-turn, safe-under}
 
 -- names that are not twice
 or-false : (x y : Bool) → (x || y) ≡ false → (x ≡ false) × (y ≡ false)

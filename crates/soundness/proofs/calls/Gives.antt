@@ -13,17 +13,20 @@ use Rattle.language.specs.Checks.{same-ty, from-caller}
 use Rattle.language.specs.Checks as ch
 use Rattle.language.specs.Meaning.{Value, State, Limits, eval, bodies, tails, num-of}
 use Rattle.language.specs.Meaning as me
-use Rattle.soundness.proofs.Basics.{In, true-false, and-left, and-right}
-use Rattle.soundness.proofs.memory.Trees.{Tr}
-use Rattle.soundness.proofs.loans.Stack.{Addr, Ln, Sh, own, pts, inert, lns, Sane, own-on-top, off-top}
-use Rattle.soundness.proofs.world.Worlds.{En, shapes, Fine1, World, Covers, Suits, Scene, Lent-pars}
+use Rattle.soundness.specs.Borrows.{In, Addr, Ln, Sh, own, pts, inert, lns, Sane}
+use Rattle.soundness.specs.Trees.{Tr}
+use Rattle.soundness.specs.Invariant.{En, shapes, Fine1, World}
+use Rattle.soundness.specs.Frames.{Covers, Suits, Scene, Lent-pars}
+use Rattle.soundness.specs.Preserved.{Safe, After-eval, After-give, All}
+use Rattle.soundness.proofs.Basics.{true-false, and-left, and-right}
+use Rattle.soundness.proofs.loans.Stack.{own-on-top, off-top}
 use Rattle.soundness.proofs.world.Levels.{sane-under, fine-length}
 use Rattle.soundness.proofs.statics.Likes.{Like, expr-like}
 use Rattle.soundness.proofs.statics.Rules.{same-ty-is}
 use Rattle.soundness.proofs.statics.Given.{from-caller-like, lent-like}
 use Rattle.soundness.proofs.frames.Names.{from-caller-ok}
 use Rattle.soundness.proofs.frames.Tuck.{rested, rested-no-refs, rested-named, given-sane, points-down, tuck}
-use Rattle.soundness.proofs.Claims.{Safe, After-eval, After-give, All, safe-weaken}
+use Rattle.soundness.proofs.Claims.{safe-weaken}
 use Rattle.soundness.proofs.stmts.Plain.{int-then}
 
 split-by : (F C : List En) (T : List Tr) → length T ≡ length (F ++ C) → (T1 : List Tr) × (T2 : List Tr) × (T ≡ T1 ++ T2) × (length F ≡ length T1) × (length T2 ≡ length C)

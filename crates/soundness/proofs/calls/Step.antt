@@ -5,7 +5,7 @@ use Prim.Native.Nat.{ℕ, suc}
 use Rattle.language.specs.Syntax.{Prog, give, give-cond, give-match}
 use Rattle.language.specs.Checks as ch
 use Rattle.language.specs.Meaning.{Limits}
-use Rattle.soundness.proofs.Claims.{Tails-ok, All}
+use Rattle.soundness.specs.Preserved.{Tails-ok, All}
 use Rattle.soundness.proofs.matches.Step.{give-match-step}
 use Rattle.soundness.proofs.calls.Gives.{give-step, give-cond-step}
 

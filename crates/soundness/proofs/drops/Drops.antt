@@ -13,12 +13,14 @@ use Rattle.language.specs.Checks.{fn-named, home-of}
 use Rattle.language.specs.Checks as ch
 use Rattle.language.specs.Meaning.{Loc, Value, con-v, State, Limits, here, read-at, with-under, ends, drops, lasts, drops-all, ref-v, nil-v, cons-v, kill, ends-box}
 use Rattle.language.specs.Meaning as me
-use Rattle.soundness.proofs.memory.Trees.{Tr, num, con, bx, void, flat, flats, weigh, Stored}
-use Rattle.soundness.proofs.loans.Stack.{Sh, own, pts, inert}
-use Rattle.soundness.proofs.world.Worlds.{flying, En, Content, Fine1, World}
-use Rattle.soundness.proofs.world.Ops.{words-pos, world-same, fly, kill-top, pop-top, part-en, parts-en, trees-of, parts-fall, open-con, shell, open-box, end-box-top, retype-top, reads, top-value, killed-under, ended-under}
+use Rattle.soundness.specs.Trees.{Tr, num, con, bx, void, flat, flats, weigh, Stored}
+use Rattle.soundness.specs.Borrows.{Sh, own, pts, inert}
+use Rattle.soundness.specs.Invariant.{flying, En, Content, Fine1, World}
+use Rattle.soundness.specs.Frames.{part-en}
+use Rattle.soundness.specs.Preserved.{Safe, After-end, Ends-ok, Drops-ok, Parts-ok, Drops-all-ok, All}
+use Rattle.soundness.proofs.world.Ops.{words-pos, world-same, fly, kill-top, pop-top, parts-en, trees-of, parts-fall, open-con, shell, open-box, end-box-top, retype-top, reads, top-value, killed-under, ended-under}
 use Rattle.soundness.proofs.statics.Accepted.{home-in, last-fn}
-use Rattle.soundness.proofs.Claims.{Safe, safe-then, safe-need, safe-under, After-end, Ends-ok, Drops-ok, Parts-ok, Drops-all-ok, All, safe-choose}
+use Rattle.soundness.proofs.Claims.{safe-then, safe-need, safe-under, safe-choose}
 
 pub drops-all-suc : (q : Prog) (m : Limits) (u : ℕ) → ch.accepts q ≡ true → All q m u → Drops-all-ok q m (suc u)
 unfolding me.eval

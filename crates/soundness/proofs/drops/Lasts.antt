@@ -12,13 +12,15 @@ use Rattle.language.specs.Syntax.{Ty, int, dat, mut, Data, Prog}
 use Rattle.language.specs.Checks as ch
 use Rattle.language.specs.Meaning.{State, Limits, here, read-at, calls, parts-of, ref-v, nil-v, cons-v, adds-root, kill}
 use Rattle.language.specs.Meaning as me
-use Rattle.soundness.proofs.Basics.{In}
-use Rattle.soundness.proofs.memory.Trees.{Tr, void, flat, Typed}
-use Rattle.soundness.proofs.loans.Stack.{Addr, Ln, own, pts, addr-of, lev-top, lev-below, derive}
-use Rattle.soundness.proofs.world.Worlds.{rooted, flying, En, shapes, places, World, all-lns, Flown, nothing, then-one}
+use Rattle.soundness.specs.Borrows.{In, Addr, Ln, own, pts, addr-of}
+use Rattle.soundness.specs.Trees.{Tr, void, flat, Typed}
+use Rattle.soundness.specs.Invariant.{rooted, flying, En, shapes, places, World}
+use Rattle.soundness.specs.Frames.{all-lns, Flown, nothing, then-one, part-en}
+use Rattle.soundness.specs.Preserved.{Safe, After-call, After-end, Lasts-ok, All}
+use Rattle.soundness.proofs.loans.Stack.{lev-top, lev-below, derive}
 use Rattle.soundness.proofs.world.Levels.{lev-at, len-shapes, len-places, fine-length, not-gone}
-use Rattle.soundness.proofs.world.Ops.{kill-top, land-top, part-en, reads, killed-under, pop-int}
-use Rattle.soundness.proofs.Claims.{Safe, safe-then, safe-need, After-call, After-end, Lasts-ok, All}
+use Rattle.soundness.proofs.world.Ops.{kill-top, land-top, reads, killed-under, pop-int}
+use Rattle.soundness.proofs.Claims.{safe-then, safe-need}
 
 -- a mut of what stands at the top, in flight
 abbrev cell-top : List En → Addr

@@ -10,15 +10,15 @@ use Rattle.language.specs.Checks.{Loan, typed}
 use Rattle.language.specs.Checks as ch
 use Rattle.language.specs.Meaning.{Value, int-v, State}
 use Rattle.language.specs.Meaning as me
+use Rattle.soundness.specs.Trees.{Tr, num, void}
+use Rattle.soundness.specs.Borrows.{Addr, Ln, pts}
+use Rattle.soundness.specs.Invariant.{En, World}
+use Rattle.soundness.specs.Frames.{Covers, Suits, Match, all-lns, Scene, part-en}
+use Rattle.soundness.specs.Preserved.{After-eval}
 use Rattle.soundness.proofs.Basics.{some-is}
-use Rattle.soundness.proofs.memory.Trees.{Tr, num, void}
-use Rattle.soundness.proofs.loans.Stack.{Addr, Ln, pts}
-use Rattle.soundness.proofs.world.Worlds.{En, World, Covers, Suits, Match, all-lns, Scene}
-use Rattle.soundness.proofs.world.Ops.{part-en}
 use Rattle.soundness.proofs.world.Tops.{push-int}
 use Rattle.soundness.proofs.world.Refs.{ref-en}
 use Rattle.soundness.proofs.frames.Covers.{covers-same}
-use Rattle.soundness.proofs.Claims.{After-eval}
 
 -- an expression whose value is a number
 pub int-after : (q : Prog) (C : List En) (ln : List Ln) (g : ch.Env) (d : me.Env) (H F : List En) (T : List Tr) (s : State) (k j : ℕ) (r : ch.Typed) → ch.typed int [] g ≡ some r → Match (length C) ln g d F → World (q .datas) (H ++ (F ++ C)) T s → s .under ≡ j → After-eval q C ln d H r j (int-v k) s

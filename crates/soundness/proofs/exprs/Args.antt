@@ -11,12 +11,14 @@ use Rattle.language.specs.Checks.{loan}
 use Rattle.language.specs.Checks as ch
 use Rattle.language.specs.Meaning.{Limits, eval, evals, append}
 use Rattle.language.specs.Meaning as me
-use Rattle.soundness.proofs.Basics.{no-some, some-is, if-some-is, append-nil, In, in-left, in-right}
-use Rattle.soundness.proofs.loans.Stack.{lns}
-use Rattle.soundness.proofs.world.Worlds.{World, Covers, Match, Flight, all-lns, Flown, then-one}
+use Rattle.soundness.specs.Borrows.{In, lns}
+use Rattle.soundness.specs.Invariant.{World}
+use Rattle.soundness.specs.Frames.{Covers, Match, Flight, all-lns, Flown, then-one}
+use Rattle.soundness.specs.Preserved.{After-eval, After-args, Evals-ok, All}
+use Rattle.soundness.proofs.Basics.{no-some, some-is, if-some-is, append-nil, in-left, in-right}
 use Rattle.soundness.proofs.statics.Rules.{with-ty-is}
 use Rattle.soundness.proofs.frames.Covers.{covers-same, in-either, covers-two, all-lns-two}
-use Rattle.soundness.proofs.Claims.{safe-then, After-eval, After-args, Evals-ok, All, safe-weaken}
+use Rattle.soundness.proofs.Claims.{safe-then, safe-weaken}
 
 pub evals-suc : (q : Prog) (m : Limits) (u : ℕ) → ch.accepts q ≡ true → All q m u → Evals-ok q m (suc u)
 unfolding me.eval

@@ -11,16 +11,18 @@ use Rattle.language.specs.Checks.{Loan, Var, owned, look, readable, all-loans, 
 use Rattle.language.specs.Checks as ch
 use Rattle.language.specs.Meaning.{Loc, Value, int-v, State, Limits, Res, here, root-of, read-at, eval, loc-of, num-of, worked, next-read, two-64}
 use Rattle.language.specs.Meaning as me
+use Rattle.soundness.specs.Trees.{Tr, flat, Typed, lies}
+use Rattle.soundness.specs.Borrows.{Addr, Ln, Sh, own, pts, inert, lev}
+use Rattle.soundness.specs.Invariant.{rooted, En, shapes, Fine1, World}
+use Rattle.soundness.specs.Frames.{Suits, Flight, Scene}
+use Rattle.soundness.specs.Preserved.{Safe, After-eval, All}
 use Rattle.soundness.proofs.Basics.{if-some-is, only-is, true-false, and-left}
-use Rattle.soundness.proofs.memory.Trees.{Tr, flat, Typed, lies}
-use Rattle.soundness.proofs.loans.Stack.{Addr, Ln, Sh, own, pts, inert, lev}
-use Rattle.soundness.proofs.world.Worlds.{rooted, En, shapes, Fine1, World, Suits, Flight, Scene}
 use Rattle.soundness.proofs.world.Ops.{world-same, reads, pop-int}
 use Rattle.soundness.proofs.world.Tops.{typed-int, top-int}
 use Rattle.soundness.proofs.world.Refs.{owner-of, points-read}
 use Rattle.soundness.proofs.statics.Rules.{there-is, same-ty-is, with-ty-is}
 use Rattle.soundness.proofs.frames.Places.{Placed, placed-at}
-use Rattle.soundness.proofs.Claims.{Safe, safe-then, safe-need, After-eval, All}
+use Rattle.soundness.proofs.Claims.{safe-then, safe-need}
 use Rattle.soundness.proofs.exprs.Afters.{int-after, scene-on}
 
 pub num-step : (q : Prog) (m : Limits) (u : ℕ) (C : List En) (ln : List Ln) (held : List Loan) (g : ch.Env) (d : me.Env) (H F : List En) (T : List Tr) (s : State) (k : ℕ) (r : ch.Typed) → ch.expr q held g (num k) ≡ some r → Scene C ln held g d H F → World (q .datas) (H ++ (F ++ C)) T s → Safe (After-eval q C ln d H r (s .under)) (eval (suc u) m q d (num k) s)

@@ -13,16 +13,18 @@ use Rattle.language.specs.Checks.{Loan, Var, loan, owned, look, is-free, all-lo
 use Rattle.language.specs.Checks as ch
 use Rattle.language.specs.Meaning.{State, Limits, here, root-of, eval, ref-v}
 use Rattle.language.specs.Meaning as me
+use Rattle.soundness.specs.Trees.{Tr, void}
+use Rattle.soundness.specs.Borrows.{Addr, Ln, Sh, own, pts, inert, lev, addr-of, Lent}
+use Rattle.soundness.specs.Invariant.{Place, En, shapes, Fine1, World}
+use Rattle.soundness.specs.Frames.{Covers, Suits, Match, Scene}
+use Rattle.soundness.specs.Preserved.{Safe, After-eval}
 use Rattle.soundness.proofs.Basics.{some-is, if-some-is, only-is, true-false, and-left, and-right}
-use Rattle.soundness.proofs.memory.Trees.{Tr, void}
-use Rattle.soundness.proofs.loans.Stack.{Addr, Ln, Sh, own, pts, inert, lev, addr-of, lev-below, derive, quiet-free}
-use Rattle.soundness.proofs.loans.Stack as lo
-use Rattle.soundness.proofs.world.Worlds.{Place, En, shapes, Fine1, World, Covers, Suits, Match, Scene}
+use Rattle.soundness.proofs.loans.Stack.{lev-below, derive, quiet-free}
 use Rattle.soundness.proofs.world.Levels.{homed-under, lev-shapes, Stands, fine-at, lev-under, not-gone}
 use Rattle.soundness.proofs.world.Refs.{ref-en, push-ref}
 use Rattle.soundness.proofs.statics.Rules.{there-is}
 use Rattle.soundness.proofs.frames.Names.{spared-by-name, free-spares, Entry, entry-of}
-use Rattle.soundness.proofs.Claims.{Safe, safe-need, After-eval}
+use Rattle.soundness.proofs.Claims.{safe-need}
 
 -- &mut x
 pub lend-step : (q : Prog) (m : Limits) (u : ℕ) (C : List En) (ln : List Ln) (held : List Loan) (g : ch.Env) (d : me.Env) (H F : List En) (T : List Tr) (s : State) (x : Lexeme) (r : ch.Typed) → ch.expr q held g (lend x) ≡ some r → Scene C ln held g d H F → World (q .datas) (H ++ (F ++ C)) T s → Safe (After-eval q C ln d H r (s .under)) (eval (suc u) m q d (lend x) s)
@@ -57,7 +59,7 @@ lend-step q m u C ln held g d H F T s x r e sc w = by (if-some-is (ch.there g x)
             st : Stands (q .datas) (s .roots) N T lx (en .en)
             st = fine-at (q .datas) (s .roots) N T lx (en .en) (w .fine) at-N
 
-            free : lo.Lent (shapes N) lx false → ⊥
+            free : Lent (shapes N) lx false → ⊥
             free = spared-by-name C ln held g d H F x lx false sc (homed-under F C (homed-under H (F ++ C) (w .sane .homed))) (en .levelled) (free-spares (held ++ all-loans g) x (and-right (owned (v .ty)) (is-free (held ++ all-loans g) x) (ok1 .0)))
 
             a : Addr

@@ -14,16 +14,17 @@ use Rattle.language.specs.Checks.{Loan, fn-named, home-of, types-of-pars, loan,
 use Rattle.language.specs.Checks as ch
 use Rattle.language.specs.Meaning.{Value, con-v, State, Limits, list-of, eval, evals, calls, box-v, nil-v, with-classes, adds-root, makes-box, count-in, words-of, peaks}
 use Rattle.language.specs.Meaning as me
-use Rattle.soundness.proofs.Basics.{some-is, if-some-is, append-nil, In, only-is}
-use Rattle.soundness.proofs.memory.Trees.{Tr, con, bx, flat}
-use Rattle.soundness.proofs.loans.Stack.{Ln, Sh, own, pts, inert, lns}
-use Rattle.soundness.proofs.world.Worlds.{flying, En, World, Covers, Suits, Match, Flight, all-lns, Flown, nothing, Scene}
-use Rattle.soundness.proofs.world.Ops.{part-en}
+use Rattle.soundness.specs.Borrows.{In, Ln, Sh, own, pts, inert, lns}
+use Rattle.soundness.specs.Trees.{Tr, con, bx, flat}
+use Rattle.soundness.specs.Invariant.{flying, En, World}
+use Rattle.soundness.specs.Frames.{Covers, Suits, Match, Flight, all-lns, Flown, nothing, Scene, part-en}
+use Rattle.soundness.specs.Preserved.{Safe, After-eval, After-args, After-call, All}
+use Rattle.soundness.proofs.Basics.{some-is, if-some-is, append-nil, only-is}
 use Rattle.soundness.proofs.world.Tops.{Owned-top, owned-top}
 use Rattle.soundness.proofs.world.Makes.{make-con, words-is, make-box}
 use Rattle.soundness.proofs.statics.Accepted.{fields-owned, fns-ok}
 use Rattle.soundness.proofs.frames.Names.{level-low, match-length}
-use Rattle.soundness.proofs.Claims.{Safe, safe-then, safe-need, After-eval, After-args, After-call, All, safe-choose, safe-weaken}
+use Rattle.soundness.proofs.Claims.{safe-then, safe-need, safe-choose, safe-weaken}
 
 -- C(..)
 pub ctor-step : (q : Prog) (m : Limits) (u : ℕ) → ch.accepts q ≡ true → All q m u → (C : List En) (ln : List Ln) (held : List Loan) (g : ch.Env) (d : me.Env) (H F : List En) (T : List Tr) (s : State) (k : Lexeme) (es : Exprs) (r : ch.Typed) → ch.expr q held g (ctor k es) ≡ some r → Scene C ln held g d H F → World (q .datas) (H ++ (F ++ C)) T s → Safe (After-eval q C ln d H r (s .under)) (eval (suc u) m q d (ctor k es) s)

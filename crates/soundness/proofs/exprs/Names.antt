@@ -13,10 +13,13 @@ use Rattle.language.specs.Checks.{Loan, Var, loan, owned, look, set-gone, is-fr
 use Rattle.language.specs.Checks as ch
 use Rattle.language.specs.Meaning.{Loc, Value, int-v, State, Limits, here, root-of, read-at, place-of, eval, ref-v, hole, write-at, moves}
 use Rattle.language.specs.Meaning as me
+use Rattle.soundness.specs.Trees.{Tr, num, con, bx, void, flat, Typed, lies}
+use Rattle.soundness.specs.Borrows.{Addr, Ln, Sh, own, pts, inert, lev, lns}
+use Rattle.soundness.specs.Invariant.{rooted, En, shapes, Points, Fine1, World}
+use Rattle.soundness.specs.Frames.{Covers, Suits, Match, Scene}
+use Rattle.soundness.specs.Preserved.{Safe, After-eval}
 use Rattle.soundness.proofs.Basics.{no-some, some-is, if-some-is, only-is, true-false}
-use Rattle.soundness.proofs.memory.Trees.{Tr, num, con, bx, void, flat, Typed, lies}
-use Rattle.soundness.proofs.loans.Stack.{Addr, Ln, Sh, own, pts, inert, lev, lns, quiet-free, quiet-readable, pre-self}
-use Rattle.soundness.proofs.world.Worlds.{rooted, En, shapes, Points, Fine1, World, Covers, Suits, Match, Scene}
+use Rattle.soundness.proofs.loans.Stack.{quiet-free, quiet-readable, pre-self}
 use Rattle.soundness.proofs.world.Levels.{not-gone}
 use Rattle.soundness.proofs.world.Ops.{reads}
 use Rattle.soundness.proofs.world.Swap.{out-en}
@@ -26,7 +29,7 @@ use Rattle.soundness.proofs.statics.Likes.{look-name}
 use Rattle.soundness.proofs.statics.Rules.{there-is}
 use Rattle.soundness.proofs.frames.Splits.{Swapped, move-name}
 use Rattle.soundness.proofs.frames.Places.{Placed, placed-at, free-at, readable-at, one-covered}
-use Rattle.soundness.proofs.Claims.{Safe, safe-need, After-eval}
+use Rattle.soundness.proofs.Claims.{safe-need}
 use Rattle.soundness.proofs.exprs.Afters.{int-after, ref-after}
 
 abbrev is-ref : Ty → Bool

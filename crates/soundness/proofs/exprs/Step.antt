@@ -5,7 +5,7 @@ use Prim.Native.Nat.{ℕ, suc}
 use Rattle.language.specs.Syntax.{num, var, op, ctor, boxed, call, share, lend, load, get-e, Prog}
 use Rattle.language.specs.Checks as ch
 use Rattle.language.specs.Meaning.{Limits}
-use Rattle.soundness.proofs.Claims.{Eval-ok, All}
+use Rattle.soundness.specs.Preserved.{Eval-ok, All}
 use Rattle.soundness.proofs.exprs.Ints.{num-step, read-step, op-step, load-step}
 use Rattle.soundness.proofs.exprs.Names.{var-step, share-step}
 use Rattle.soundness.proofs.exprs.Lends.{lend-step}

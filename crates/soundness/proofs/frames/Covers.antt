@@ -9,9 +9,10 @@ use Rattle.language.specs.Base.{choose, Lexeme, same}
 use Rattle.language.specs.Checks.{Loan, loan}
 use Rattle.language.specs.Checks as ch
 use Rattle.language.specs.Meaning as me
-use Rattle.soundness.proofs.Basics.{In, in-left, in-right}
-use Rattle.soundness.proofs.loans.Stack.{Ln, lns}
-use Rattle.soundness.proofs.world.Worlds.{En, level-in, Covers, Match, all-lns}
+use Rattle.soundness.specs.Borrows.{In, Ln, lns}
+use Rattle.soundness.specs.Invariant.{En}
+use Rattle.soundness.specs.Frames.{level-in, Covers, Match, all-lns}
+use Rattle.soundness.proofs.Basics.{in-left, in-right}
 use Rattle.soundness.proofs.frames.Names.{match-length}
 
 -- two static environments of the same names

@@ -12,9 +12,11 @@ use Rattle.language.specs.Syntax.{Ty}
 use Rattle.language.specs.Checks.{Loan, Var, loan, owned, look, is-free, readable, all-loans, from-caller}
 use Rattle.language.specs.Checks as ch
 use Rattle.language.specs.Meaning as me
-use Rattle.soundness.proofs.Basics.{no-some, some-is, In, true-false, or-right, and-left, and-right, or-case, same-is, same-self, in-left, in-right, each-in, not-true}
-use Rattle.soundness.proofs.loans.Stack.{Addr, Ln, Sh, own, pts, inert, lev, lns, addr-of, Has, Lent, cell-at, Homed1, Homed, lev-top, lev-case, lev-below, lev-push}
-use Rattle.soundness.proofs.world.Worlds.{rooted, En, shapes, level-in, Covers, Suits, Match, all-lns, Scene, Lent-pars}
+use Rattle.soundness.specs.Borrows.{In, Addr, Ln, Sh, own, pts, inert, lev, lns, addr-of, Has, Lent, cell-at, Homed1, Homed}
+use Rattle.soundness.specs.Invariant.{rooted, En, shapes}
+use Rattle.soundness.specs.Frames.{level-in, Covers, Suits, Match, all-lns, Scene, Lent-pars}
+use Rattle.soundness.proofs.Basics.{no-some, some-is, true-false, or-right, and-left, and-right, or-case, same-is, same-self, in-left, in-right, each-in, not-true}
+use Rattle.soundness.proofs.loans.Stack.{lev-top, lev-case, lev-below, lev-push}
 use Rattle.soundness.proofs.world.Levels.{len-shapes, lev-shapes}
 
 -- levels of names

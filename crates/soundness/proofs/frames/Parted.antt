@@ -7,8 +7,9 @@ use lib.ListN.{length, length-append}
 use Rattle.language.specs.Checks as ch
 use Rattle.language.specs.Meaning.{newer}
 use Rattle.language.specs.Meaning as me
-use Rattle.soundness.proofs.loans.Stack.{Ln}
-use Rattle.soundness.proofs.world.Worlds.{En, Match, Named}
+use Rattle.soundness.specs.Borrows.{Ln}
+use Rattle.soundness.specs.Invariant.{En}
+use Rattle.soundness.specs.Frames.{Match, Named}
 
 -- the names newer than h, on top of it
 pub newer-is : (k h : me.Env) → newer (k ++ h) h ≡ k

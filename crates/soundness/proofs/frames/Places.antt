@@ -12,10 +12,10 @@ use Rattle.language.specs.Checks.{Loan, Var, loan, look, is-free, readable, all
 use Rattle.language.specs.Checks as ch
 use Rattle.language.specs.Meaning.{State}
 use Rattle.language.specs.Meaning as me
-use Rattle.soundness.proofs.memory.Trees.{Tr}
-use Rattle.soundness.proofs.loans.Stack.{Ln, lev, lns}
-use Rattle.soundness.proofs.loans.Stack as lo
-use Rattle.soundness.proofs.world.Worlds.{Place, rooted, En, shapes, places, Fine1, World, level-in, Covers, Suits, Scene}
+use Rattle.soundness.specs.Trees.{Tr}
+use Rattle.soundness.specs.Borrows.{Ln, lev, lns, Lent}
+use Rattle.soundness.specs.Invariant.{Place, rooted, En, shapes, places, Fine1, World}
+use Rattle.soundness.specs.Frames.{level-in, Covers, Suits, Scene}
 use Rattle.soundness.proofs.world.Levels.{homed-under, lev-shapes, Stands, fine-at, lev-under}
 use Rattle.soundness.proofs.world.Refs.{one-loan}
 use Rattle.soundness.proofs.frames.Names.{spared-by-name, free-spares, readable-spares, Entry, entry-of}
@@ -62,10 +62,10 @@ placed-at ds C ln held g d H F T s x v sc w lk = record {
     st = fine-at ds (s .roots) N T (en .level) (en .en) (w .fine) at-N
 
 -- free and readable, at the name's level
-pub free-at : (ds : List Data) (C : List En) (ln : List Ln) (held : List Loan) (g : ch.Env) (d : me.Env) (H F : List En) (T : List Tr) (s : State) (x : Lexeme) (lx : ℕ) → Scene C ln held g d H F → World ds (H ++ (F ++ C)) T s → level-in (length C) g x ≡ some lx → is-free (held ++ all-loans g) x ≡ true → lo.Lent (shapes (H ++ (F ++ C))) lx false → ⊥
+pub free-at : (ds : List Data) (C : List En) (ln : List Ln) (held : List Loan) (g : ch.Env) (d : me.Env) (H F : List En) (T : List Tr) (s : State) (x : Lexeme) (lx : ℕ) → Scene C ln held g d H F → World ds (H ++ (F ++ C)) T s → level-in (length C) g x ≡ some lx → is-free (held ++ all-loans g) x ≡ true → Lent (shapes (H ++ (F ++ C))) lx false → ⊥
 free-at ds C ln held g d H F T s x lx sc w e fr = spared-by-name C ln held g d H F x lx false sc (homed-under F C (homed-under H (F ++ C) (w .sane .homed))) e (free-spares (held ++ all-loans g) x fr)
 
-pub readable-at : (ds : List Data) (C : List En) (ln : List Ln) (held : List Loan) (g : ch.Env) (d : me.Env) (H F : List En) (T : List Tr) (s : State) (x : Lexeme) (lx : ℕ) → Scene C ln held g d H F → World ds (H ++ (F ++ C)) T s → level-in (length C) g x ≡ some lx → readable (held ++ all-loans g) x ≡ true → lo.Lent (shapes (H ++ (F ++ C))) lx true → ⊥
+pub readable-at : (ds : List Data) (C : List En) (ln : List Ln) (held : List Loan) (g : ch.Env) (d : me.Env) (H F : List En) (T : List Tr) (s : State) (x : Lexeme) (lx : ℕ) → Scene C ln held g d H F → World ds (H ++ (F ++ C)) T s → level-in (length C) g x ≡ some lx → readable (held ++ all-loans g) x ≡ true → Lent (shapes (H ++ (F ++ C))) lx true → ⊥
 readable-at ds C ln held g d H F T s x lx sc w e fr = spared-by-name C ln held g d H F x lx true sc (homed-under F C (homed-under H (F ++ C) (w .sane .homed))) e (readable-spares (held ++ all-loans g) x fr)
 
 -- the loan of a name is covered by the rule's

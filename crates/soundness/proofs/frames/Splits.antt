@@ -13,11 +13,12 @@ use Rattle.language.specs.Checks.{Loan, Var, owned, look, set-gone, is-free, al
 use Rattle.language.specs.Checks as ch
 use Rattle.language.specs.Meaning.{State, here, read-at, hole, write-at}
 use Rattle.language.specs.Meaning as me
+use Rattle.soundness.specs.Trees.{Tr, void, flat, Stored}
+use Rattle.soundness.specs.Borrows.{Ln, Sh, own, pts, inert, lev, lns, Lent}
+use Rattle.soundness.specs.Invariant.{rooted, flying, En, shapes, Content, Fine1, World}
+use Rattle.soundness.specs.Frames.{level-in, Covers, Suits, Match1, Match, Scene}
 use Rattle.soundness.proofs.Basics.{no-some, some-is, true-false}
-use Rattle.soundness.proofs.memory.Trees.{Tr, void, flat, Stored}
-use Rattle.soundness.proofs.loans.Stack.{Ln, Sh, own, pts, inert, lev, lns, lev-case, unseen, own-on-top, off-top}
-use Rattle.soundness.proofs.loans.Stack as lo
-use Rattle.soundness.proofs.world.Worlds.{rooted, flying, En, shapes, Content, Fine1, World, level-in, Covers, Suits, Match1, Match, Scene}
+use Rattle.soundness.proofs.loans.Stack.{lev-case, unseen, own-on-top, off-top}
 use Rattle.soundness.proofs.world.Levels.{homed-under, lev-shapes, fine-mid, fine-length}
 use Rattle.soundness.proofs.world.Ops.{reads}
 use Rattle.soundness.proofs.world.Swap.{Wrote, writes, lev-mid, flagged, out-en, swap-world}
@@ -175,8 +176,8 @@ swap-name ds C ln held g d H F x v z e y T s sc lk ow fr e-at st-y co w = by-sha
     f-ex : Fine1 ds (s .roots) (ex .at) (ex .gone) (ex .sh) tr N2 (cu .T2)
     f-ex = fine-mid ds (s .roots) N1 (cu .T1) ex N2 tr (cu .T2) (cu .len1) (w2 .fine .1)
 
-    free : lo.Lent (shapes (N1 ++ (ex ∷ N2))) (length N2) false → ⊥
-    free = subst (λ k. lo.Lent (shapes k) (length N2) false → ⊥) same-N (spared-by-name C ln held g d H F x (length N2) false sc (homed-under F C (homed-under H (F ++ C) (w .sane .homed .1))) (sp .levelled) (free-spares (held ++ all-loans g) x fr))
+    free : Lent (shapes (N1 ++ (ex ∷ N2))) (length N2) false → ⊥
+    free = subst (λ k. Lent (shapes k) (length N2) false → ⊥) same-N (spared-by-name C ln held g d H F x (length N2) false sc (homed-under F C (homed-under H (F ++ C) (w .sane .homed .1))) (sp .levelled) (free-spares (held ++ all-loans g) x fr))
 
     by-shape1 : (sh : Sh) → ex .sh ≡ sh → Suits (v .ty) sh → Swapped ds C ln g d H x v z y s
     by-shape1 (own t) sh-is su = record {

@@ -13,11 +13,12 @@ use Rattle.language.specs.Checks.{Loan}
 use Rattle.language.specs.Checks as ch
 use Rattle.language.specs.Meaning.{Value, Root, State}
 use Rattle.language.specs.Meaning as me
-use Rattle.soundness.proofs.Basics.{no-some, some-is, In}
-use Rattle.soundness.proofs.memory.Trees.{Tr, weigh}
-use Rattle.soundness.proofs.loans.Stack.{Addr, Ln, Sh, own, pts, inert, lev, lns, addr-of, Comp, Has, cell-at, Sane, lev-top, lev-below, lev-push, Verdict, pair-of, cell-older, own-on-top, inert-on-top, off-top}
-use Rattle.soundness.proofs.loans.Stack as lo
-use Rattle.soundness.proofs.world.Worlds.{Place, rooted, En, shapes, places, Points, Idle, Fine1, Fine, weigh-at, weigh-all, World, level-in, Covers, Match, Named, No-refs}
+use Rattle.soundness.specs.Borrows.{In, Addr, Ln, Sh, own, pts, inert, lev, lns, addr-of, Comp, Has, cell-at, Sane, Lent}
+use Rattle.soundness.specs.Trees.{Tr, weigh}
+use Rattle.soundness.specs.Invariant.{Place, rooted, En, shapes, places, Points, Idle, Fine1, Fine, weigh-at, weigh-all, World}
+use Rattle.soundness.specs.Frames.{level-in, Covers, Match, Named, No-refs}
+use Rattle.soundness.proofs.Basics.{no-some, some-is}
+use Rattle.soundness.proofs.loans.Stack.{lev-top, lev-below, lev-push, Verdict, pair-of, cell-older, own-on-top, inert-on-top, off-top}
 use Rattle.soundness.proofs.world.Levels.{len-shapes, sane-under, len-places, lev-under}
 use Rattle.soundness.proofs.frames.Names.{level-low, Of-cell}
 
@@ -81,7 +82,7 @@ below-lent C ln g ls L i al lt cov h = go (cov (h .0) (h .1))
     go (inl k) = (h .0, k, h .2, h .3)
     go (inr k) = absurd (let a = level-low (length C) g (k .0) (h .0 .to) (k .1) in let a0 = a .0 in let k2 = h .2 in omega arith)
 
-frame-lent : (C : List En) (ln : List Ln) (g : ch.Env) (d : me.Env) (F : List En) (i : ℕ) (al : Bool) → Match (length C) ln g d F → i < length C → lo.Lent (shapes (F ++ C)) i al → Has ln i al ⊎ lo.Lent (shapes C) i al
+frame-lent : (C : List En) (ln : List Ln) (g : ch.Env) (d : me.Env) (F : List En) (i : ℕ) (al : Bool) → Match (length C) ln g d F → i < length C → Lent (shapes (F ++ C)) i al → Has ln i al ⊎ Lent (shapes C) i al
 frame-lent C ln [] [] [] i al mt lt h = inr h
 frame-lent C ln [] [] (e ∷ F) i al mt lt h = absurd mt
 frame-lent C ln [] (m ∷ d) F i al mt lt h = absurd mt
@@ -124,7 +125,7 @@ given-sane C ln g d F ls0 al t a ls mt low cov oc sn = (record { apart = (λ f f
     own-cell : (u : Ty) × (lev (shapes C) (a .cell) ≡ some (own u))
     own-cell = (sn .homed .0 .2 .0, shapes-down F C (a .cell) (own (sn .homed .0 .2 .0)) cell-low (sn .homed .0 .2 .1))
 
-    lent1 : (i : ℕ) (al1 : Bool) → i < length C → lo.Lent (pts al t a ls ∷ shapes (F ++ C)) i al1 → lo.Lent (pts al t a ln ∷ shapes C) i al1
+    lent1 : (i : ℕ) (al1 : Bool) → i < length C → Lent (pts al t a ls ∷ shapes (F ++ C)) i al1 → Lent (pts al t a ln ∷ shapes C) i al1
     lent1 i al1 lt (inl h) = inl (below-lent C ln g ls0 ls i al1 lt cov h)
     lent1 i al1 lt (inr h) = frame-lent C ln g d F i al1 mt lt h
 

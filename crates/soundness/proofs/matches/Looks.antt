@@ -13,15 +13,17 @@ use Rattle.language.specs.Checks.{Matched, loan, bind-all, ref-of, data-named, 
 use Rattle.language.specs.Checks as ch
 use Rattle.language.specs.Meaning.{Loc, con-v, Values, State, here, root-of, read-at, place-of, shape-of, shape, taken, refs-to, parts}
 use Rattle.language.specs.Meaning as me
-use Rattle.soundness.proofs.Basics.{some-is, In, true-false}
-use Rattle.soundness.proofs.memory.Trees.{Tr, num, con, bx, void, Trs, flat, flats, Typed, fld, nth-t, sub, lies}
-use Rattle.soundness.proofs.loans.Stack.{Addr, Ln, Sh, own, pts, lev, excl, addr-of, Pre, Has, cell-at, lev-below, Quiet}
-use Rattle.soundness.proofs.world.Worlds.{rooted, En, shapes, places, Content, Points, Fine1, World, level-in, Covers, Suits, Match}
+use Rattle.soundness.specs.Borrows.{In, Addr, Ln, Sh, own, pts, lev, excl, addr-of, Pre, Has, cell-at}
+use Rattle.soundness.specs.Trees.{Tr, num, con, bx, void, Trs, flat, flats, Typed, fld, nth-t, sub, lies}
+use Rattle.soundness.specs.Invariant.{rooted, En, shapes, places, Content, Points, Fine1, World}
+use Rattle.soundness.specs.Frames.{level-in, Covers, Suits, Match}
+use Rattle.soundness.specs.Preserved.{Looking}
+use Rattle.soundness.proofs.Basics.{some-is, true-false}
+use Rattle.soundness.proofs.loans.Stack.{lev-below, Quiet}
 use Rattle.soundness.proofs.world.Ops.{reads}
 use Rattle.soundness.proofs.world.Refs.{homed-up, points-read}
 use Rattle.soundness.proofs.statics.Accepted.{okay}
 use Rattle.soundness.proofs.statics.Choices.{home-is}
-use Rattle.soundness.proofs.Claims.{Looking}
 use Rattle.soundness.proofs.matches.Parts.{Bound, kid-addr, Ready, refs-bound}
 
 -- what's seen: at level lz, of shape z; the constructor k with the parts vs, of data D

@@ -13,11 +13,13 @@ use Rattle.language.specs.Checks.{Loan, Var, fresh, enter, bind-all, ref-of}
 use Rattle.language.specs.Checks as ch
 use Rattle.language.specs.Meaning.{Loc, Value, State, here, ref-v, adds-root, Name, roots-in, names-in, refs-to}
 use Rattle.language.specs.Meaning as me
-use Rattle.soundness.proofs.Basics.{no-some, some-is, if-some-is, In, only-is}
-use Rattle.soundness.proofs.memory.Trees.{Tr, con, void, Trs, nil, cons, flats, Typeds, Step, fld, Way-down, nth-t, kid, sub, hop, lies}
+use Rattle.soundness.specs.Borrows.{In, Addr, Ln, Sh, own, pts, lev, excl, lns, addr-of, Comp, Has, cell-at}
+use Rattle.soundness.specs.Trees.{Tr, con, void, Trs, nil, cons, flats, Typeds, Step, fld, Way-down, nth-t, kid, sub, hop, lies}
+use Rattle.soundness.specs.Invariant.{rooted, En, shapes, places, Points, World}
+use Rattle.soundness.specs.Frames.{Covers, Suits, Match}
+use Rattle.soundness.proofs.Basics.{no-some, some-is, if-some-is, only-is}
 use Rattle.soundness.proofs.memory.Ways.{lies-step, sub-step, extend}
-use Rattle.soundness.proofs.loans.Stack.{Addr, Ln, Sh, own, pts, lev, excl, lns, addr-of, Comp, Has, cell-at, lev-below, lev-push, Quiet, derive, quiet-more, siblings, cell-up}
-use Rattle.soundness.proofs.world.Worlds.{rooted, En, shapes, places, Points, World, Covers, Suits, Match}
+use Rattle.soundness.proofs.loans.Stack.{lev-below, lev-push, Quiet, derive, quiet-more, siblings, cell-up}
 use Rattle.soundness.proofs.world.Ops.{land, land-top}
 use Rattle.soundness.proofs.world.Refs.{ref-en, push-ref}
 use Rattle.soundness.proofs.statics.Scopes.{fresh-none}

@@ -13,15 +13,17 @@ use Rattle.language.specs.Checks.{Loan, Var, Matched, loan, owned, look, set-go
 use Rattle.language.specs.Checks as ch
 use Rattle.language.specs.Meaning.{Loc, Values, State, shape, taken, refs-to, parts}
 use Rattle.language.specs.Meaning as me
+use Rattle.soundness.specs.Trees.{Tr}
+use Rattle.soundness.specs.Borrows.{Addr, Ln, Sh, own, pts, inert, lev, excl, lns, addr-of, Pre}
+use Rattle.soundness.specs.Invariant.{rooted, En, shapes, Fine1, World}
+use Rattle.soundness.specs.Frames.{level-in, Covers, Suits, Match, Scene}
+use Rattle.soundness.specs.Preserved.{Looking}
 use Rattle.soundness.proofs.Basics.{no-some, some-is, only-is, true-false}
-use Rattle.soundness.proofs.memory.Trees.{Tr}
-use Rattle.soundness.proofs.loans.Stack.{Addr, Ln, Sh, own, pts, inert, lev, excl, lns, addr-of, Pre, Quiet, quiet-free, quiet-readable}
-use Rattle.soundness.proofs.world.Worlds.{rooted, En, shapes, Fine1, World, level-in, Covers, Suits, Match, Scene}
+use Rattle.soundness.proofs.loans.Stack.{Quiet, quiet-free, quiet-readable}
 use Rattle.soundness.proofs.world.Refs.{homed-up, owner-of}
 use Rattle.soundness.proofs.statics.Likes.{look-name}
 use Rattle.soundness.proofs.statics.Rules.{there-is}
 use Rattle.soundness.proofs.frames.Places.{Placed, placed-at, free-at, readable-at}
-use Rattle.soundness.proofs.Claims.{Looking}
 use Rattle.soundness.proofs.matches.Looks.{Seen, seen-own, seen-ref, Looked, Suit, looked-refs, looked-name}
 use Rattle.soundness.proofs.matches.Takes.{looked-take}
 

@@ -12,10 +12,12 @@ use Rattle.language.specs.Checks.{Var, Matched, loan, look, is-free, readable, 
 use Rattle.language.specs.Checks as ch
 use Rattle.language.specs.Meaning.{Value, con-v, State, Limits, Shape, here, root-of, read-at, place-of, shape-of, bodies, tails, by-shape, block, exec, by-alt, shape, roots-in, taken, names-in, parts, find-alt, find-arm}
 use Rattle.language.specs.Meaning as me
+use Rattle.soundness.specs.Trees.{Tr, num, con, bx, void, flat, flats, Typed}
+use Rattle.soundness.specs.Borrows.{Addr, Ln, Sh, own, pts}
+use Rattle.soundness.specs.Invariant.{rooted, En, shapes, Content, Points, Fine1, World}
+use Rattle.soundness.specs.Frames.{Suits, Match, Scene, Lent-pars}
+use Rattle.soundness.specs.Preserved.{Safe, After-give, After-exec, Looking, By-shape-ok, By-alt-ok, All}
 use Rattle.soundness.proofs.Basics.{no-some, some-is, if-some-is, only-is, true-false, and-left, and-right}
-use Rattle.soundness.proofs.memory.Trees.{Tr, num, con, bx, void, flat, flats, Typed}
-use Rattle.soundness.proofs.loans.Stack.{Addr, Ln, Sh, own, pts}
-use Rattle.soundness.proofs.world.Worlds.{rooted, En, shapes, Content, Points, Fine1, World, Suits, Match, Scene, Lent-pars}
 use Rattle.soundness.proofs.world.Ops.{reads}
 use Rattle.soundness.proofs.world.Refs.{homed-up, points-read}
 use Rattle.soundness.proofs.statics.Likes.{Like}
@@ -24,7 +26,7 @@ use Rattle.soundness.proofs.statics.Scopes.{Distinct, match-distinct, like-dis
 use Rattle.soundness.proofs.statics.Grows.{Alt-found, alt-found}
 use Rattle.soundness.proofs.statics.Choices.{covered, found-alt, ChosenArm, from-is, chosen-arm}
 use Rattle.soundness.proofs.frames.Places.{Placed, placed-at}
-use Rattle.soundness.proofs.Claims.{Safe, safe-need, After-give, After-exec, Looking, By-shape-ok, By-alt-ok, All, safe-weaken, after-weak}
+use Rattle.soundness.proofs.Claims.{safe-need, safe-weaken, after-weak}
 use Rattle.soundness.proofs.matches.Parts.{Bound}
 use Rattle.soundness.proofs.matches.Looks.{place-con, Looked}
 use Rattle.soundness.proofs.matches.Sights.{suits-dat, suits-ref, suits-mut, matched-is, data-of-is, looks}

@@ -12,18 +12,20 @@ use Rattle.language.specs.Checks.{Var, Matched, owned, look, fresh, set-gone, e
 use Rattle.language.specs.Checks as ch
 use Rattle.language.specs.Meaning.{Loc, Value, con-v, Values, Root, State, here, list-of, read-at, place-of, shape-of, hole, adds-root, write-at, shape}
 use Rattle.language.specs.Meaning as me
+use Rattle.soundness.specs.Trees.{Tr, num, con, bx, void, Trs, nil, cons, flat, flats, Stored, Typed, Typeds}
+use Rattle.soundness.specs.Borrows.{Ln, own}
+use Rattle.soundness.specs.Invariant.{En, shapes, Content, Fine, World}
+use Rattle.soundness.specs.Frames.{Match, Scene, part-en}
+use Rattle.soundness.specs.Preserved.{Looking}
 use Rattle.soundness.proofs.Basics.{no-some, some-is, only-is, true-false}
-use Rattle.soundness.proofs.memory.Trees.{Tr, num, con, bx, void, Trs, nil, cons, flat, flats, Stored, Typed, Typeds}
-use Rattle.soundness.proofs.loans.Stack.{Ln, own, own-on-top, off-top}
-use Rattle.soundness.proofs.world.Worlds.{En, shapes, Content, Fine, World, Match, Scene}
+use Rattle.soundness.proofs.loans.Stack.{own-on-top, off-top}
 use Rattle.soundness.proofs.world.Levels.{sane-under}
-use Rattle.soundness.proofs.world.Ops.{typed-owned, land, part-en, parts-en, trees-of, parts-sane, parts-weigh, open-con}
+use Rattle.soundness.proofs.world.Ops.{typed-owned, land, parts-en, trees-of, parts-sane, parts-weigh, open-con}
 use Rattle.soundness.proofs.world.Swap.{out-en}
 use Rattle.soundness.proofs.world.Lands.{land-mid}
 use Rattle.soundness.proofs.statics.Accepted.{okay}
 use Rattle.soundness.proofs.statics.Choices.{home-is}
 use Rattle.soundness.proofs.frames.Splits.{Swapped, move-name}
-use Rattle.soundness.proofs.Claims.{Looking}
 use Rattle.soundness.proofs.matches.Parts.{Bound, bound-more, bound-none, match-more}
 use Rattle.soundness.proofs.matches.Looks.{Looked}
 

@@ -7,8 +7,8 @@ use Prim.Native.Nat.{ℕ, zero, suc}
 use native.Mathlib.Omega.{arith}
 use Rattle.language.specs.Syntax.{Ty, int, dat, box, ref, mut, Data}
 use Rattle.language.specs.Meaning.{Loc}
+use Rattle.soundness.specs.Trees.{Tr, num, con, bx, void, Trs, nil, cons, Typed, Typeds, Step, fld, ins, Way-down, nth-t, put-t, kid, set-kid, sub, repl, hop, lies, Below}
 use Rattle.soundness.proofs.Basics.{no-some, some-is, if-some-is, order-case}
-use Rattle.soundness.proofs.memory.Trees.{Tr, num, con, bx, void, Trs, nil, cons, Typed, Typeds, Step, fld, ins, Way-down, nth-t, put-t, kid, set-kid, sub, repl, hop, lies, Below}
 use Rattle.soundness.proofs.memory.Ways.{repl-step, lies-step, sub-step}
 
 pub typed-unique : (ds : List Data) (x : Tr) (t u : Ty) → Typed ds x t → Typed ds x u → t ≡ u

@@ -9,8 +9,8 @@ use native.Mathlib.Omega.{arith}
 use lib.Dec.{eqb, T, eqb-refl}
 use Rattle.language.specs.Base.{choose, from-option, if-some, at-place, set-at, Lexeme}
 use Rattle.language.specs.Meaning.{Loc, Value, int-v, con-v, Values, Root, here, box-v, ref-v, hole, nil-v, cons-v, at-path, nth-v, put-path, put-v}
+use Rattle.soundness.specs.Trees.{Tr, num, con, bx, void, Trs, nil, cons, flat, flats, weigh, weighs, Stored, Storeds, Step, fld, ins, Way-down, nth-t, put-t, kid, set-kid, sub, repl, hop, lies}
 use Rattle.soundness.proofs.Basics.{no-some, some-is, if-some-is, append-nil}
-use Rattle.soundness.proofs.memory.Trees.{Tr, num, con, bx, void, Trs, nil, cons, flat, flats, weigh, weighs, Stored, Storeds, Step, fld, ins, Way-down, nth-t, put-t, kid, set-kid, sub, repl, hop, lies}
 
 -- the list of roots
 pub at-put-same : {A : Type 0} (xs : List A) (r : ℕ) (x v : A) → at-place xs r ≡ some x → at-place (set-at xs r v) r ≡ some v

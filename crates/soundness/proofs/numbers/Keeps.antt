@@ -1,16 +1,16 @@
 -- Every function of the meaning keeps what numbers satisfy, and what is said of the numbers shown.
 use mathlib.Core.Bool.{Bool, true, false}
 use mathlib.Core.List.{List, [], _∷_, _++_}
-use mathlib.Core.Option.{Option, some, none}
-use mathlib.Core.Path.{_≡_, refl, subst}
+use mathlib.Core.Option.{some}
+use mathlib.Core.Path.{_≡_, subst}
 use Prim.Native.Nat.{ℕ, zero, suc, _+_}
 use native.Mathlib.Omega.{arith}
-use lib.Dec.{eqb, leb}
+use lib.Dec.{eqb}
 use lib.ListN.{length}
-use Rattle.language.specs.Base.{choose, from-option, if-some, Lexeme, same}
+use Rattle.language.specs.Base.{choose, if-some, Lexeme, same}
 use Rattle.language.specs.Syntax.{Expr, num, var, op, ctor, boxed, call, share, lend, load, get-e, Exprs, nil-e, cons-e, Access, Stmt, bind, assign, store, put-s, cond, loop, match-s, open-s, inside, Stmts, nil-s, cons-s, Alts, no-alts, alt, Body, body, Tail, give, give-cond, give-match, Arms, no-arms, arm, Fn, Prog}
-use Rattle.language.specs.Checks.{fn-named, home-of}
-use Rattle.language.specs.Meaning.{Loc, Value, int-v, con-v, box-v, ref-v, hole, Values, nil-v, cons-v, State, Limits, Stop, wrong, Res, ok, stop, Env, Shape, shape, Found, FoundArm, two-64, worked, next-read, reads-in, shows, here, read-at, write-at, place-of, shape-of, num-of, loc-of, box-of, there, root-of, moves, makes-box, words-of, adds-root, kill, ends-box, with-under, with-classes, append, list-of, roots-in, names-in, names-of, parts, taken, find-alt, find-arm, frame, newer, then, need, turn, goes-under, eval, evals, calls, bodies, tails, by-shape, execs, block, exec, by-alt, ends, drops, lasts, parts-of, drops-all}
+use Rattle.language.specs.Checks.{fn-named}
+use Rattle.language.specs.Meaning.{Loc, Value, int-v, con-v, box-v, ref-v, hole, Values, nil-v, cons-v, State, Limits, Env, Shape, shape, Found, FoundArm, two-64, worked, next-read, here, read-at, write-at, place-of, shape-of, num-of, there, moves, makes-box, adds-root, kill, ends-box, with-under, append, list-of, parts, find-alt, find-arm, frame, newer, eval, evals, calls, bodies, tails, by-shape, execs, block, exec, by-alt, ends, drops, lasts, parts-of, drops-all}
 use Rattle.soundness.specs.Numbers.{Every, Numbers, Numbers-of, Shape-numbers, State-numbers, Literals-e, Literals-es, Literals-s, Literals-ss, Literals-alts, Literals-body, Literals-tail, Literals-arms, Literals, Numbers-kept}
 use Rattle.soundness.proofs.Basics.{no-some, some-is, if-some-is}
 use Rattle.soundness.proofs.numbers.Memory.{append-numbers, list-numbers, parts-numbers, read-numbers, write-numbers, push-numbers, kill-numbers, end-box-numbers, roots-numbers, taken-numbers}

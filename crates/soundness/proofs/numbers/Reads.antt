@@ -3,15 +3,13 @@ use mathlib.Core.Bool.{Bool, true, false, _||_}
 use mathlib.Core.List.{List, [], _∷_, _++_}
 use mathlib.Core.Option.{Option, some, none}
 use mathlib.Core.Path.{_≡_, refl, sym, subst}
-use Prim.Native.Nat.{ℕ, zero, suc, _+_, _<_}
-use native.Mathlib.Omega.{arith}
+use Prim.Native.Nat.{ℕ, zero, suc, _+_}
 use lib.Dec.{eqb, ltb, T, ltb→lt}
 use Rattle.language.specs.Base.{choose, from-option, if-some, Lexeme, same}
-use Rattle.language.specs.Syntax.{Ty, Expr, num, var, op, ctor, boxed, call, share, lend, load, get-e, Exprs, nil-e, cons-e, Access, Stmt, bind, assign, store, put-s, cond, loop, match-s, open-s, inside, Stmts, nil-s, cons-s, Alts, no-alts, alt, Body, body, Tail, give, give-cond, give-match, Arms, no-arms, arm, Ctor, Data, Param, Fn, Prog}
+use Rattle.language.specs.Syntax.{Expr, num, op, Exprs, Stmt, bind, assign, store, put-s, open-s, inside, Stmts, Alts, Body, Tail, Arms, Data, Fn, Prog}
 use Rattle.language.specs.Text.{Found, found, go-on, expect}
 use Rattle.language.specs.Text as tx
 use Rattle.soundness.specs.Numbers.{Every, Literals-e, Literals-es, Literals-s, Literals-ss, Literals-alts, Literals-body, Literals-tail, Literals-arms, Literals, Word}
-use Rattle.soundness.proofs.Basics.{no-some, some-is}
 
 -- of what is read, if anything is
 abbrev Reads : {A : Type 0} → (A → Type 0) → Option (Found A) → Type 0

@@ -2,16 +2,14 @@
 use mathlib.Core.Bool.{Bool, true, false}
 use mathlib.Core.List.{List, [], _∷_, _++_}
 use mathlib.Core.Logic.{inl, inr}
-use mathlib.Core.Option.{Option, some, none}
-use mathlib.Core.Path.{_≡_, refl, sym, subst}
-use Prim.Native.Nat.{ℕ, zero, suc, _+_, _*_, _-_, _/_, _%_, _<_, _≤_}
+use mathlib.Core.Path.{refl}
+use Prim.Native.Nat.{ℕ, zero, suc, _+_, _*_, _-_, _/_, _%_, _≤_}
 use native.Mathlib.Omega.{arith}
 use lib.Dec.{eqb, ltb}
 use Rattle.language.specs.Base.{choose}
-use Rattle.language.specs.Syntax.{Fn, Prog}
 use Rattle.language.specs.Checks.{fn-named, w-main}
-use Rattle.language.specs.Meaning.{State, Limits, Res, ok, stop, two-64, worked, unless-0, as-number, next-read, need, calls, run, blank}
-use Rattle.soundness.specs.Numbers.{Every, State-numbers, Numbers, Literals, Literals-body, Behind, Word, Shown, Words-kept, Shown-small}
+use Rattle.language.specs.Meaning.{Res, two-64, worked, unless-0, as-number, next-read, blank}
+use Rattle.soundness.specs.Numbers.{Every, State-numbers, Literals, Behind, Word, Shown, Words-kept, Shown-small}
 use Rattle.soundness.proofs.numbers.Meets.{Meets, by-ok, by-stop, need-meets}
 use Rattle.soundness.proofs.numbers.Keeps.{Closed, numbers-kept, calls-meets, fn-literals}
 use Rattle.soundness.proofs.numbers.Reads.{text-literals}

@@ -10,7 +10,8 @@ use Rattle.language.specs.Base.{choose, from-option, Lexeme, same, each-of, no-
 use Rattle.language.specs.Syntax.{Ty, int, dat, mut, Body, Data, Fn, Prog, Param, Ctor}
 use Rattle.language.specs.Checks.{ok-fn, fn-named, home-of, types-of-pars, same-ty, owned, size-of, Home, ctor-named, ok-ctor, ok-data}
 use Rattle.language.specs.Checks as ch
-use Rattle.soundness.proofs.Basics.{no-some, some-is, In, true-false, and-left, and-right, each-in}
+use Rattle.soundness.specs.Borrows.{In}
+use Rattle.soundness.proofs.Basics.{no-some, some-is, true-false, and-left, and-right, each-in}
 use Rattle.soundness.proofs.statics.Rules.{same-ty-is}
 
 -- a constructor's fields are owned

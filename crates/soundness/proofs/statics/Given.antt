@@ -8,8 +8,8 @@ use Prim.Native.Nat.{ℕ, zero, suc}
 use Rattle.language.specs.Base.{choose, from-option, Lexeme, same, is-in, each-of}
 use Rattle.language.specs.Checks.{Loan, Var, owned, look, from-caller}
 use Rattle.language.specs.Checks as ch
+use Rattle.soundness.specs.Frames.{Lent-pars}
 use Rattle.soundness.proofs.Basics.{no-some, some-is, true-false, or-left, or-right, and-left, and-right, or-case}
-use Rattle.soundness.proofs.world.Worlds.{Lent-pars}
 use Rattle.soundness.proofs.statics.Likes.{Like}
 
 look-like : (g h : ch.Env) (x : Lexeme) (v : Var) → Like g h → look g x ≡ some v → (w : Var) × (look h x ≡ some w) × (v .ty ≡ w .ty) × (v .loans ≡ w .loans)

@@ -8,9 +8,10 @@ use Rattle.language.specs.Base.{choose, from-option, Lexeme, same, only-if, pre
 use Rattle.language.specs.Syntax.{Ty, int, dat, box, ref, mut, Access, Data, Prog, take, view, edit}
 use Rattle.language.specs.Checks.{Loan, Var, Matched, loan, Env, look, fresh, set-gone, enter, is-free, readable, all-loans, outer, both, no-more-gone, bind-all, ref-of, looks-at, matched, data-of, data-named}
 use Rattle.language.specs.Meaning as me
+use Rattle.soundness.specs.Borrows.{Ln}
+use Rattle.soundness.specs.Invariant.{En}
+use Rattle.soundness.specs.Frames.{Match, Lent-pars}
 use Rattle.soundness.proofs.Basics.{no-some, some-is, only-is, true-false, or-left, or-right, and-left, and-right, same-is, same-self}
-use Rattle.soundness.proofs.loans.Stack.{Ln}
-use Rattle.soundness.proofs.world.Worlds.{En, Match, Lent-pars}
 use Rattle.soundness.proofs.world.Flags.{Weaker}
 use Rattle.soundness.proofs.statics.Likes.{Like, like-self, like-then, like-gone, fresh-like}
 use Rattle.soundness.proofs.statics.Given.{lent-like}

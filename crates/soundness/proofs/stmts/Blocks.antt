@@ -10,15 +10,17 @@ use Rattle.language.specs.Checks.{outer}
 use Rattle.language.specs.Checks as ch
 use Rattle.language.specs.Meaning.{State, Limits, execs, exec, ends, newer}
 use Rattle.language.specs.Meaning as me
+use Rattle.soundness.specs.Borrows.{Sh, own, pts, inert}
+use Rattle.soundness.specs.Invariant.{En, shapes, World}
+use Rattle.soundness.specs.Frames.{Match, No-refs}
+use Rattle.soundness.specs.Preserved.{Safe, After-exec, After-end, Execs-ok, Block-ok, All}
 use Rattle.soundness.proofs.Basics.{some-is, if-some-is}
-use Rattle.soundness.proofs.loans.Stack.{Sh, own, pts, inert}
-use Rattle.soundness.proofs.world.Worlds.{En, shapes, World, Match, No-refs}
 use Rattle.soundness.proofs.world.Ops.{world-same}
 use Rattle.soundness.proofs.statics.Likes.{Like, like-length}
 use Rattle.soundness.proofs.statics.Scopes.{match-distinct, outer-part}
 use Rattle.soundness.proofs.statics.Grows.{stmts-grows}
 use Rattle.soundness.proofs.frames.Parted.{newer-is, match-names, Parted, match-parted}
-use Rattle.soundness.proofs.Claims.{Safe, safe-then, safe-turn, After-exec, After-end, Execs-ok, Block-ok, All, safe-weaken}
+use Rattle.soundness.proofs.Claims.{safe-then, safe-turn, safe-weaken}
 
 pub no-refs-under : (F1 F2 : List En) → No-refs (shapes (F1 ++ F2)) → No-refs (shapes F2)
 no-refs-under [] F2 h = h

@@ -12,18 +12,21 @@ use Rattle.language.specs.Checks.{Loan, Var, loan, owned, look, fresh, enter, i
 use Rattle.language.specs.Checks as ch
 use Rattle.language.specs.Meaning.{Loc, Value, State, Limits, Res, here, root-of, read-at, exec, ref-v, adds-root, loc-of, box-of}
 use Rattle.language.specs.Meaning as me
+use Rattle.soundness.specs.Trees.{Tr, bx, void, flat, ins, Way-down, kid, sub, hop, lies}
+use Rattle.soundness.specs.Borrows.{Addr, Ln, Sh, own, pts, inert, lev, lns, Pre}
+use Rattle.soundness.specs.Invariant.{rooted, En, shapes, Cell, Points, Fine1, World}
+use Rattle.soundness.specs.Frames.{Covers, Suits, Match, Scene}
+use Rattle.soundness.specs.Preserved.{Safe, After-exec}
 use Rattle.soundness.proofs.Basics.{no-some, some-is, if-some-is, only-is, true-false}
-use Rattle.soundness.proofs.memory.Trees.{Tr, bx, void, flat, ins, Way-down, kid, sub, hop, lies}
 use Rattle.soundness.proofs.memory.Ways.{lies-step}
-use Rattle.soundness.proofs.loans.Stack.{Addr, Ln, Sh, own, pts, inert, lev, lns, Pre, quiet-free}
-use Rattle.soundness.proofs.world.Worlds.{rooted, En, shapes, Cell, Points, Fine1, World, Covers, Suits, Match, Scene}
+use Rattle.soundness.proofs.loans.Stack.{quiet-free}
 use Rattle.soundness.proofs.world.Ops.{land, reads}
 use Rattle.soundness.proofs.world.Lands.{land-mid}
 use Rattle.soundness.proofs.world.Refs.{owner-of, one-loan, ref-en, lend-on, copy-ref, points-read}
 use Rattle.soundness.proofs.statics.Likes.{look-name}
 use Rattle.soundness.proofs.statics.Rules.{there-is}
 use Rattle.soundness.proofs.frames.Places.{Placed, placed-at, free-at, one-covered}
-use Rattle.soundness.proofs.Claims.{Safe, safe-need, After-exec}
+use Rattle.soundness.proofs.Claims.{safe-need}
 use Rattle.soundness.proofs.matches.Parts.{match-more, sub-down}
 use Rattle.soundness.proofs.stmts.Opens.{boxed-is, is-box1}
 

@@ -13,11 +13,14 @@ use Rattle.language.specs.Checks.{Var, owned, look, fresh, set-gone, enter, is-
 use Rattle.language.specs.Checks as ch
 use Rattle.language.specs.Meaning.{Value, Root, State, Limits, Res, here, root-of, read-at, exec, hole, with-roots, adds-root, ends-box, write-at, box-of}
 use Rattle.language.specs.Meaning as me
+use Rattle.soundness.specs.Trees.{Tr, num, con, bx, void, flat, Stored, Typed}
+use Rattle.soundness.specs.Borrows.{Ln, Sh, own, pts, inert}
+use Rattle.soundness.specs.Invariant.{rooted, flying, En, shapes, Content, Idle, weigh-at, World}
+use Rattle.soundness.specs.Frames.{Suits, Match, Scene, part-en}
+use Rattle.soundness.specs.Preserved.{Safe, After-exec}
 use Rattle.soundness.proofs.Basics.{no-some, some-is, if-some-is, only-is, true-false, and-left, and-right}
-use Rattle.soundness.proofs.memory.Trees.{Tr, num, con, bx, void, flat, Stored, Typed}
-use Rattle.soundness.proofs.loans.Stack.{Ln, Sh, own, pts, inert, own-on-top, inert-on-top, off-top}
-use Rattle.soundness.proofs.world.Worlds.{rooted, flying, En, shapes, Content, Idle, weigh-at, World, Suits, Match, Scene}
-use Rattle.soundness.proofs.world.Ops.{typed-owned, words-pos, land, part-en, shell, end-box-top, reads, ended-under}
+use Rattle.soundness.proofs.loans.Stack.{own-on-top, inert-on-top, off-top}
+use Rattle.soundness.proofs.world.Ops.{typed-owned, words-pos, land, shell, end-box-top, reads, ended-under}
 use Rattle.soundness.proofs.world.Swap.{Wrote, writes, out-en}
 use Rattle.soundness.proofs.world.Lands.{land-mid}
 use Rattle.soundness.proofs.statics.Likes.{like-gone, fresh-like}
@@ -25,7 +28,7 @@ use Rattle.soundness.proofs.statics.Rules.{there-is}
 use Rattle.soundness.proofs.statics.Scopes.{fresh-none}
 use Rattle.soundness.proofs.frames.Names.{entry-of}
 use Rattle.soundness.proofs.frames.Splits.{Swapped, move-name}
-use Rattle.soundness.proofs.Claims.{Safe, safe-need, After-exec}
+use Rattle.soundness.proofs.Claims.{safe-need}
 use Rattle.soundness.proofs.stmts.Stores.{typed-there}
 
 -- a box in flight, under the box that's to end: what's in it, in flight

@@ -12,10 +12,12 @@ use Rattle.language.specs.Checks.{same-ty, fresh, enter, outer, both, no-more-g
 use Rattle.language.specs.Checks as ch
 use Rattle.language.specs.Meaning.{State, Limits, Res, eval, block, exec, adds-root, num-of, shows}
 use Rattle.language.specs.Meaning as me
+use Rattle.soundness.specs.Trees.{Tr}
+use Rattle.soundness.specs.Borrows.{Ln}
+use Rattle.soundness.specs.Invariant.{En, World}
+use Rattle.soundness.specs.Frames.{Match, Flight, Scene}
+use Rattle.soundness.specs.Preserved.{Safe, After-eval, After-exec, All}
 use Rattle.soundness.proofs.Basics.{some-is, if-some-is, only-is}
-use Rattle.soundness.proofs.memory.Trees.{Tr}
-use Rattle.soundness.proofs.loans.Stack.{Ln}
-use Rattle.soundness.proofs.world.Worlds.{En, World, Match, Flight, Scene}
 use Rattle.soundness.proofs.world.Ops.{world-same, land, pop-int}
 use Rattle.soundness.proofs.world.Lands.{land-mid}
 use Rattle.soundness.proofs.world.Flags.{Weaker}
@@ -24,7 +26,7 @@ use Rattle.soundness.proofs.statics.Likes.{like-then, expr-like}
 use Rattle.soundness.proofs.statics.Rules.{as-int-is, same-ty-is}
 use Rattle.soundness.proofs.statics.Scopes.{match-distinct, like-distinct, like-sym, both-left, both-right, not-more-gone, fresh-none, outer-like}
 use Rattle.soundness.proofs.statics.Grows.{stmts-grows}
-use Rattle.soundness.proofs.Claims.{Safe, safe-then, safe-need, safe-turn, After-eval, After-exec, All, safe-choose, safe-weaken, after-weak}
+use Rattle.soundness.proofs.Claims.{safe-then, safe-need, safe-turn, safe-choose, safe-weaken, after-weak}
 
 -- let x = e
 pub bind-step : (q : Prog) (m : Limits) (u : ℕ) → All q m u → (C : List En) (ln : List Ln) (g g2 : ch.Env) (d : me.Env) (F : List En) (T : List Tr) (s : State) (x : Lexeme) (e1 : Expr) → ch.stmt q g (bind x e1) ≡ some g2 → Scene C ln [] g d [] F → World (q .datas) (F ++ C) T s → Safe (After-exec q C ln g2 d (s .under)) (exec (suc u) m q d (bind x e1) s)

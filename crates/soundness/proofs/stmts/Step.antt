@@ -5,7 +5,7 @@ use Prim.Native.Nat.{ℕ, suc}
 use Rattle.language.specs.Syntax.{Prog, assign, store, bind, put-s, cond, loop, match-s, open-s, inside}
 use Rattle.language.specs.Checks as ch
 use Rattle.language.specs.Meaning.{Limits}
-use Rattle.soundness.proofs.Claims.{Exec-ok, All}
+use Rattle.soundness.specs.Preserved.{Exec-ok, All}
 use Rattle.soundness.proofs.matches.Step.{match-step}
 use Rattle.soundness.proofs.stmts.Plain.{bind-step, show-step, cond-step, loop-step}
 use Rattle.soundness.proofs.stmts.Stores.{assign-step, store-step}

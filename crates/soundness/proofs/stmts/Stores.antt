@@ -13,12 +13,14 @@ use Rattle.language.specs.Checks.{same-ty, owned, look, set-gone, is-free, all-
 use Rattle.language.specs.Checks as ch
 use Rattle.language.specs.Meaning.{Loc, Value, State, Limits, Res, here, root-of, read-at, eval, exec, drops, ref-v, write-at, loc-of}
 use Rattle.language.specs.Meaning as me
+use Rattle.soundness.specs.Trees.{Tr, num, con, bx, void, flat, Stored, Typed, fld, ins, Way-down, sub, repl, lies}
+use Rattle.soundness.specs.Borrows.{Addr, Ln, Sh, own, pts, inert, lev, Sane, Lent}
+use Rattle.soundness.specs.Invariant.{rooted, flying, En, shapes, Cell, Content, Points, Fine1, Fine, World}
+use Rattle.soundness.specs.Frames.{Suits, Match, Flight, Scene}
+use Rattle.soundness.specs.Preserved.{Safe, After-eval, After-exec, After-end, All}
 use Rattle.soundness.proofs.Basics.{no-some, some-is, if-some-is, only-is, true-false, and-left, and-right}
-use Rattle.soundness.proofs.memory.Trees.{Tr, num, con, bx, void, flat, Stored, Typed, fld, ins, Way-down, sub, repl, lies}
 use Rattle.soundness.proofs.memory.Typing.{typed-repl, sub-repl}
-use Rattle.soundness.proofs.loans.Stack.{Addr, Ln, Sh, own, pts, inert, lev, Sane, spared, off-top}
-use Rattle.soundness.proofs.loans.Stack as lo
-use Rattle.soundness.proofs.world.Worlds.{rooted, flying, En, shapes, Cell, Content, Points, Fine1, Fine, World, Suits, Match, Flight, Scene}
+use Rattle.soundness.proofs.loans.Stack.{spared, off-top}
 use Rattle.soundness.proofs.world.Levels.{homed-under, entry-back, lev-shapes, fine-mid, fine-length, Stands, fine-at}
 use Rattle.soundness.proofs.world.Ops.{reads}
 use Rattle.soundness.proofs.world.Swap.{reads-way, Wrote, writes, lev-mid, Kept, out-en, swap-world}
@@ -27,7 +29,7 @@ use Rattle.soundness.proofs.world.Refs.{owner-of}
 use Rattle.soundness.proofs.statics.Rules.{there-is, same-ty-is}
 use Rattle.soundness.proofs.frames.Names.{spared-by-name, free-spares, entry-of}
 use Rattle.soundness.proofs.frames.Splits.{split-lev, Cut, split-trees, swap-name}
-use Rattle.soundness.proofs.Claims.{Safe, safe-then, safe-need, After-eval, After-exec, After-end, All}
+use Rattle.soundness.proofs.Claims.{safe-then, safe-need}
 
 -- what was there is dropped; the frame stands
 drop-old : (q : Prog) (m : Limits) (u : ℕ) → All q m u → (C : List En) (ln : List Ln) (g2 : ch.Env) (d : me.Env) (F : List En) (T : List Tr) (t : State) (k : ℕ) (e : En) (v : Value) → e .at ≡ flying v → t .under ≡ k → Match (length C) ln g2 d F → World (q .datas) (e ∷ (F ++ C)) T t → Safe (After-exec q C ln g2 d k) (me.then (drops u m q v t) (λ j y. me.ok d y))
@@ -76,7 +78,7 @@ sub-void ds [] part u e ty = subst (λ z. Typed ds z u) (sym (some-is e)) ty
 sub-void ds (fld i ∷ is) part u e ty = no-some e
 sub-void ds (ins ∷ is) part u e ty = no-some e
 
-put-in : (ds : List Data) (top : En) (N : List En) (y : Tr) (T : List Tr) (s : State) (u : Ty) (a : Addr) (ls : List Ln) (w : Value) (lx : ℕ) → top .at ≡ flying (flat y) → Stored (s .roots) y → Typed ds y u → owned u ≡ true → lev (shapes N) lx ≡ some (pts true u a ls) → (lo.Lent (shapes N) lx false → ⊥) → Points ds N T u a w → World ds (top ∷ N) (y ∷ T) s → Put ds N y s u w
+put-in : (ds : List Data) (top : En) (N : List En) (y : Tr) (T : List Tr) (s : State) (u : Ty) (a : Addr) (ls : List Ln) (w : Value) (lx : ℕ) → top .at ≡ flying (flat y) → Stored (s .roots) y → Typed ds y u → owned u ≡ true → lev (shapes N) lx ≡ some (pts true u a ls) → (Lent (shapes N) lx false → ⊥) → Points ds N T u a w → World ds (top ∷ N) (y ∷ T) s → Put ds N y s u w
 put-in ds top N y T s u a ls w lx t-at st-y ty-y ow x-at free pt wo = record {
   loc = lies (here r) (a .way) tr;
   old = old;

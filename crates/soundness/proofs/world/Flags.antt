@@ -12,10 +12,11 @@ use Rattle.language.specs.Checks.{Loan, look}
 use Rattle.language.specs.Checks as ch
 use Rattle.language.specs.Meaning.{Root, State}
 use Rattle.language.specs.Meaning as me
+use Rattle.soundness.specs.Trees.{Tr, weigh}
+use Rattle.soundness.specs.Borrows.{Ln, Sh, own, pts, inert, lev, lns, Sane}
+use Rattle.soundness.specs.Invariant.{Place, En, shapes, places, Content, Fine1, Fine, weigh-at, weigh-all, World}
+use Rattle.soundness.specs.Frames.{level-in, Covers, Suits, Match}
 use Rattle.soundness.proofs.Basics.{no-some, true-false}
-use Rattle.soundness.proofs.memory.Trees.{Tr, weigh}
-use Rattle.soundness.proofs.loans.Stack.{Ln, Sh, own, pts, inert, lev, lns, Sane}
-use Rattle.soundness.proofs.world.Worlds.{Place, En, shapes, places, Content, Fine1, Fine, weigh-at, weigh-all, World, level-in, Covers, Suits, Match}
 use Rattle.soundness.proofs.world.Swap.{flagged}
 
 -- entries, the same but for more flags

@@ -9,11 +9,11 @@ use lib.ListN.{length}
 use Rattle.language.specs.Base.{at-place}
 use Rattle.language.specs.Syntax.{Ty, Data}
 use Rattle.language.specs.Meaning.{Value, Root, State, adds-root}
+use Rattle.soundness.specs.Trees.{Tr, weigh}
+use Rattle.soundness.specs.Borrows.{Addr, Sh, own, pts, inert, lev, Sane}
+use Rattle.soundness.specs.Invariant.{Place, rooted, flying, En, shapes, places, Points, Fine1, Fine, weigh-at, weigh-all, of-size, is-box, World}
 use Rattle.soundness.proofs.Basics.{some-is}
-use Rattle.soundness.proofs.memory.Trees.{Tr, weigh}
 use Rattle.soundness.proofs.memory.Ways.{mark}
-use Rattle.soundness.proofs.loans.Stack.{Addr, Sh, own, pts, inert, lev, Sane}
-use Rattle.soundness.proofs.world.Worlds.{Place, rooted, flying, En, shapes, places, Points, Fine1, Fine, weigh-at, weigh-all, of-size, is-box, World}
 use Rattle.soundness.proofs.world.Ops.{total-push, at-push, at-last, Elsewhere, stored-else, fine1-else, fine-else, land, no-size, total-high}
 use Rattle.soundness.proofs.world.Swap.{lev-mid, lev-mid-other}
 

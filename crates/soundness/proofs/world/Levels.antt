@@ -10,10 +10,11 @@ use lib.ListN.{length}
 use Rattle.language.specs.Syntax.{Ty, Data}
 use Rattle.language.specs.Checks.{typed}
 use Rattle.language.specs.Meaning.{Value, Root}
+use Rattle.soundness.specs.Trees.{Tr, Typed}
+use Rattle.soundness.specs.Borrows.{Addr, Sh, own, pts, inert, lev, Homed, Sane}
+use Rattle.soundness.specs.Invariant.{Place, rooted, En, shapes, places, Content, Points, Fine1, Fine}
 use Rattle.soundness.proofs.Basics.{no-some, true-false}
-use Rattle.soundness.proofs.memory.Trees.{Tr, Typed}
-use Rattle.soundness.proofs.loans.Stack.{Addr, Sh, own, pts, inert, lev, Homed, Sane, lev-top, lev-case, lev-below, lev-push, off-top}
-use Rattle.soundness.proofs.world.Worlds.{Place, rooted, En, shapes, places, Content, Points, Fine1, Fine}
+use Rattle.soundness.proofs.loans.Stack.{lev-top, lev-case, lev-below, lev-push, off-top}
 
 pub homed-under : (H C : List En) → Homed (shapes (H ++ C)) → Homed (shapes C)
 homed-under [] C h = h

@@ -14,13 +14,14 @@ use Rattle.language.specs.Checks.{home-of, owned, size, size-of, Home}
 use Rattle.language.specs.Checks as ch
 use Rattle.language.specs.Meaning.{Value, Values, Root, State, append, nil-v, cons-v, Class, with-classes, adds-root, count-in, words-of}
 use Rattle.language.specs.Says.{boxes}
+use Rattle.soundness.specs.Trees.{Tr, num, con, bx, void, Trs, nil, cons, flat, flats, weigh, weighs, Stored, Storeds, words-in, Typed, Typeds}
+use Rattle.soundness.specs.Invariant.{flying, En, shapes, Fine, weigh-at, weigh-all, now-of, of-size, is-box, World}
+use Rattle.soundness.specs.Frames.{Flown, nothing, then-one, part-en}
 use Rattle.soundness.proofs.Basics.{and-left, and-right}
-use Rattle.soundness.proofs.memory.Trees.{Tr, num, con, bx, void, Trs, nil, cons, flat, flats, weigh, weighs, Stored, Storeds, words-in, Typed, Typeds}
 use Rattle.soundness.proofs.memory.Ways.{mark}
 use Rattle.soundness.proofs.loans.Stack.{own-on-top, off-top}
-use Rattle.soundness.proofs.world.Worlds.{flying, En, shapes, Fine, weigh-at, weigh-all, now-of, of-size, is-box, World, Flown, nothing, then-one}
 use Rattle.soundness.proofs.world.Levels.{sane-under}
-use Rattle.soundness.proofs.world.Ops.{typed-owned, words-pos, total-push, at-push, at-last, Elsewhere, stored-else, fine-else, part-en, total-high}
+use Rattle.soundness.proofs.world.Ops.{typed-owned, words-pos, total-push, at-push, at-last, Elsewhere, stored-else, fine-else, total-high}
 use Rattle.soundness.proofs.world.Tops.{owned-flight}
 
 -- one more part behind the others

@@ -14,11 +14,13 @@ use Rattle.language.specs.Checks.{owned, size}
 use Rattle.language.specs.Meaning.{Value, Root, State, here, read-at, hole, Class, with-roots, with-classes, adds-root, kill, ends-box, count-out}
 use Rattle.language.specs.Meaning as me
 use Rattle.language.specs.Says.{boxes}
+use Rattle.soundness.specs.Trees.{Tr, num, con, bx, void, Trs, nil, cons, flat, flats, weigh, weighs, Stored, Storeds, words-in, Typed, Typeds}
+use Rattle.soundness.specs.Borrows.{Sh, own, pts, inert, Sane}
+use Rattle.soundness.specs.Invariant.{Place, rooted, flying, En, shapes, Cell, Content, Idle, Fine1, Fine, weigh-at, weigh-all, total, now-of, of-size, is-box, World}
+use Rattle.soundness.specs.Frames.{Suits, Flight, Falling, part-en}
 use Rattle.soundness.proofs.Basics.{no-some, some-is}
-use Rattle.soundness.proofs.memory.Trees.{Tr, num, con, bx, void, Trs, nil, cons, flat, flats, weigh, weighs, Stored, Storeds, words-in, Typed, Typeds}
 use Rattle.soundness.proofs.memory.Ways.{at-put-other, mark, mark-self, mark-apart}
-use Rattle.soundness.proofs.loans.Stack.{Sh, own, pts, inert, Sane, own-on-top, inert-on-top, off-top}
-use Rattle.soundness.proofs.world.Worlds.{Place, rooted, flying, En, shapes, Cell, Content, Idle, Fine1, Fine, weigh-at, weigh-all, total, now-of, of-size, is-box, World, Suits, Flight, Falling}
+use Rattle.soundness.proofs.loans.Stack.{own-on-top, inert-on-top, off-top}
 
 -- typed trees are of owned types; box sizes aren't 0
 pub typed-owned : (ds : List Data) (x : Tr) (t : Ty) → Typed ds x t → owned t ≡ true
@@ -238,10 +240,6 @@ pop-top ds e N x T s v at-is z w = record {
   weights = λ f. (let a = w .weights f in let a2 : weigh-at f (e .at) ≡ 0 = ap (weigh-at f) at-is in let a3 = z f in omega arith);
   counted = w .counted;
 }
-
--- parts in flight, the first on top
-abbrev pub part-en : Tr → Ty → En
-part-en x t = record { at = flying (flat x); gone = false; sh = own t }
 
 abbrev pub parts-en : Trs → List Ty → List En
 parts-en nil ts = []

@@ -10,10 +10,11 @@ use lib.ListN.{length}
 use Rattle.language.specs.Base.{if-some}
 use Rattle.language.specs.Syntax.{Ty, Data}
 use Rattle.language.specs.Meaning.{Value, State, here, read-at}
+use Rattle.soundness.specs.Trees.{Tr, void, flat, Stored, lies}
+use Rattle.soundness.specs.Borrows.{Addr, Ln, Sh, own, pts, inert, lev, excl, addr-of, Pre, Apart, Homed1, Homed}
+use Rattle.soundness.specs.Invariant.{rooted, flying, En, shapes, Points, Fine1, World}
 use Rattle.soundness.proofs.Basics.{no-some, some-is, true-false}
-use Rattle.soundness.proofs.memory.Trees.{Tr, void, flat, Stored, lies}
-use Rattle.soundness.proofs.loans.Stack.{Addr, Ln, Sh, own, pts, inert, lev, excl, addr-of, Pre, Apart, Homed1, Homed, lev-case, lev-below, lev-push, Quiet, derive, cell-up}
-use Rattle.soundness.proofs.world.Worlds.{rooted, flying, En, shapes, Points, Fine1, World}
+use Rattle.soundness.proofs.loans.Stack.{lev-case, lev-below, lev-push, Quiet, derive, cell-up}
 use Rattle.soundness.proofs.world.Levels.{entry-back, Stands, fine-at}
 use Rattle.soundness.proofs.world.Ops.{reads}
 use Rattle.soundness.proofs.world.Swap.{sub-stored, reads-way}

@@ -12,12 +12,13 @@ use Rattle.language.specs.Base.{choose, if-some, at-place, set-at}
 use Rattle.language.specs.Syntax.{Ty, Data}
 use Rattle.language.specs.Checks.{owned}
 use Rattle.language.specs.Meaning.{Loc, Value, Root, State, here, read-at, ref-v, live-root, with-roots, write-at, at-path, put-path}
+use Rattle.soundness.specs.Trees.{Tr, num, con, bx, void, Trs, nil, cons, flat, weigh, Stored, Storeds, Typed, Step, fld, ins, Way-down, nth-t, kid, set-kid, sub, repl, hop, lies}
+use Rattle.soundness.specs.Borrows.{Addr, Ln, Sh, own, pts, inert, lev, Sane}
+use Rattle.soundness.specs.Invariant.{Place, rooted, flying, En, shapes, places, Content, Points, Fine1, Fine, weigh-at, weigh-all, total, now-of, of-size, is-box, World}
 use Rattle.soundness.proofs.Basics.{no-some, some-is, if-some-is, order-case}
-use Rattle.soundness.proofs.memory.Trees.{Tr, num, con, bx, void, Trs, nil, cons, flat, weigh, Stored, Storeds, Typed, Step, fld, ins, Way-down, nth-t, kid, set-kid, sub, repl, hop, lies}
 use Rattle.soundness.proofs.memory.Ways.{at-put-same, at-put-other, at-path-then, nth-flats, mark, mark-self, repl-step, lies-step, sub-step, weigh-repl, extend, Outcome, same-root, in-a-box, outcome, Written, stored-other, stored-box, stored-repl}
 use Rattle.soundness.proofs.memory.Typing.{kid-set-same, hop-set, Stays}
-use Rattle.soundness.proofs.loans.Stack.{Addr, Ln, Sh, own, pts, inert, lev, Sane, lev-top, lev-below, lev-push, own-on-top, off-top}
-use Rattle.soundness.proofs.world.Worlds.{Place, rooted, flying, En, shapes, places, Content, Points, Fine1, Fine, weigh-at, weigh-all, total, now-of, of-size, is-box, World}
+use Rattle.soundness.proofs.loans.Stack.{lev-top, lev-below, lev-push, own-on-top, off-top}
 use Rattle.soundness.proofs.world.Levels.{fine-mid, len-places}
 use Rattle.soundness.proofs.world.Ops.{Elsewhere, fine1-else, fine-else, once-in}
 

@@ -9,11 +9,12 @@ use native.Mathlib.Omega.{arith}
 use Rattle.language.specs.Syntax.{Ty, int, Data}
 use Rattle.language.specs.Checks.{owned}
 use Rattle.language.specs.Meaning.{Value, int-v, Root, State, num-of}
+use Rattle.soundness.specs.Trees.{Tr, num, con, bx, void, flat, Stored, Typed}
+use Rattle.soundness.specs.Borrows.{Sh, own, pts, inert}
+use Rattle.soundness.specs.Invariant.{flying, En, shapes, Content, Fine1, World}
+use Rattle.soundness.specs.Frames.{Suits, Flight, part-en}
 use Rattle.soundness.proofs.Basics.{true-false}
-use Rattle.soundness.proofs.memory.Trees.{Tr, num, con, bx, void, flat, Stored, Typed}
-use Rattle.soundness.proofs.loans.Stack.{Sh, own, pts, inert, own-on-top}
-use Rattle.soundness.proofs.world.Worlds.{flying, En, shapes, Content, Fine1, World, Suits, Flight}
-use Rattle.soundness.proofs.world.Ops.{part-en}
+use Rattle.soundness.proofs.loans.Stack.{own-on-top}
 
 -- what's in flight, of an owned type
 pub owned-flight : (ds : List Data) (rs : List Root) (e : En) (x : Tr) (N : List En) (T : List Tr) (v : Value) (t : Ty) → owned t ≡ true → Flight v t e → Fine1 ds rs (e .at) (e .gone) (e .sh) x N T → (v ≡ flat x) × Stored rs x × Typed ds x t
