@@ -10,7 +10,7 @@ use lib.Dec.{eqb}
 use lib.ListN.{length}
 use Rattle.language.specs.Base.{if-some, choose}
 use Rattle.language.specs.Syntax.{Ty}
-use Rattle.soundness.specs.Trees.{Way-down}
+use Rattle.soundness.specs.Trees.{Path}
 
 abbrev pub In : {A : Type 0} → A → List A → Type 0
 In x [] = ⊥
@@ -18,76 +18,76 @@ In x (y ∷ ys) = (x ≡ y) ⊎ In x ys
 
 -- a deep address: the level of the owned entry, and the way down its tree, through fields and boxes
 pub record Addr : Type 0 where
-  pub cell : ℕ
-  pub way : Way-down
+  pub owner : ℕ
+  pub path : Path
 
 -- a loan of what stands at a level
-pub record Ln : Type 0 where
-  pub to : ℕ
+pub record Level-loan : Type 0 where
+  pub level : ℕ
   pub alone : Bool
 
 -- owns a tree of a type; points, alone or shared, at a tree of a type, with loans; or a root that's only there to be ended
-pub data Sh : Type 0 where
-  own : Ty → Sh
-  pts : Bool → Ty → Addr → List Ln → Sh
-  inert : Sh
+pub data Kind : Type 0 where
+  own : Ty → Kind
+  borrow : Bool → Ty → Addr → List Level-loan → Kind
+  inert : Kind
 
-abbrev pub lev : {A : Type 0} → List A → ℕ → Option A
-lev [] i = none
-lev (x ∷ xs) i = choose (eqb i (length xs)) (some x) (lev xs i)
+abbrev pub at-level : {A : Type 0} → List A → ℕ → Option A
+at-level [] i = none
+at-level (x ∷ xs) i = choose (eqb i (length xs)) (some x) (at-level xs i)
 
-abbrev pub excl : Sh → Bool
-excl (own t) = true
-excl (pts x t a ls) = x
-excl inert = true
+abbrev pub exclusive : Kind → Bool
+exclusive (own t) = true
+exclusive (borrow x t a ls) = x
+exclusive inert = true
 
-abbrev pub lns : Sh → List Ln
-lns (own t) = []
-lns (pts x t a ls) = ls
-lns inert = []
+abbrev pub loans-of : Kind → List Level-loan
+loans-of (own t) = []
+loans-of (borrow x t a ls) = ls
+loans-of inert = []
 
 -- the address of what stands at a level: of what is owned, its own
-abbrev pub addr-of : ℕ → Sh → Option Addr
-addr-of i (own t) = some (record { cell = i; way = [] })
-addr-of i (pts x t a ls) = some a
+abbrev pub addr-of : ℕ → Kind → Option Addr
+addr-of i (own t) = some (record { owner = i; path = [] })
+addr-of i (borrow x t a ls) = some a
 addr-of i inert = none
 
-abbrev pub Pre : Addr → Addr → Type 0
-Pre a d = (a .cell ≡ d .cell) × ((r : Way-down) × (d .way ≡ a .way ++ r))
+abbrev pub Prefix : Addr → Addr → Type 0
+Prefix a d = (a .owner ≡ d .owner) × ((r : Path) × (d .path ≡ a .path ++ r))
 
-abbrev pub Comp : Addr → Addr → Type 0
-Comp a d = Pre a d ⊎ Pre d a
+abbrev pub Comparable : Addr → Addr → Type 0
+Comparable a d = Prefix a d ⊎ Prefix d a
 
 -- somebody has a loan of level i; alone, if that's asked
-abbrev pub Has : List Ln → ℕ → Bool → Type 0
-Has ls i al = (l : Ln) × In l ls × (l .to ≡ i) × (al ≡ true → l .alone ≡ true)
+abbrev pub Has-loan : List Level-loan → ℕ → Bool → Type 0
+Has-loan ls i al = (l : Level-loan) × In l ls × (l .level ≡ i) × (al ≡ true → l .alone ≡ true)
 
-abbrev pub Lent : List Sh → ℕ → Bool → Type 0
+abbrev pub Lent : List Kind → ℕ → Bool → Type 0
 Lent [] i al = ⊥
-Lent (y ∷ N) i al = Has (lns y) i al ⊎ Lent N i al
+Lent (y ∷ N) i al = Has-loan (loans-of y) i al ⊎ Lent N i al
 
 -- X, of an older x at level i and address a, and a newer y at address d, N up to y: if one of the addresses is above the other, then both are shared; or
 -- x is exclusive and above, and its level is lent, alone if y is exclusive
-abbrev pub Pair : List Sh → ℕ → Sh → Addr → Sh → Addr → Type 0
-Pair N i x a y d = Comp a d → ((excl x ≡ false) × (excl y ≡ false)) ⊎ ((excl x ≡ true) × Pre a d × Lent N i (excl y))
+abbrev pub Pairwise : List Kind → ℕ → Kind → Addr → Kind → Addr → Type 0
+Pairwise N i x a y d = Comparable a d → ((exclusive x ≡ false) × (exclusive y ≡ false)) ⊎ ((exclusive x ≡ true) × Prefix a d × Lent N i (exclusive y))
 
-abbrev pub Apart : List Sh → Type 0
-Apart [] = Unit {0}
-Apart (y ∷ N) = ((d : Addr) → addr-of (length N) y ≡ some d → (i : ℕ) (x : Sh) (a : Addr) → lev N i ≡ some x → addr-of i x ≡ some a → Pair (y ∷ N) i x a y d) × Apart N
+abbrev pub Exclusivity : List Kind → Type 0
+Exclusivity [] = Unit {0}
+Exclusivity (y ∷ N) = ((d : Addr) → addr-of (length N) y ≡ some d → (i : ℕ) (x : Kind) (a : Addr) → at-level N i ≡ some x → addr-of i x ≡ some a → Pairwise (y ∷ N) i x a y d) × Exclusivity N
 
 -- L: a reference's loans are of older ones, one of them in the same cell; and that's owned
-abbrev pub cell-at : List Sh → ℕ → Option ℕ
-cell-at N i = if-some (lev N i) (λ x. if-some (addr-of i x) (λ a. some (a .cell)))
+abbrev pub owner-at : List Kind → ℕ → Option ℕ
+owner-at N i = if-some (at-level N i) (λ x. if-some (addr-of i x) (λ a. some (a .owner)))
 
-abbrev pub Homed1 : List Sh → Sh → Type 0
-Homed1 N (own t) = Unit {0}
-Homed1 N (pts x t a ls) = ((l : Ln) → In l ls → l .to < length N) × ((l : Ln) × In l ls × (cell-at N (l .to) ≡ some (a .cell))) × ((u : Ty) × (lev N (a .cell) ≡ some (own u)))
-Homed1 N inert = Unit {0}
+abbrev pub Anchored1 : List Kind → Kind → Type 0
+Anchored1 N (own t) = Unit {0}
+Anchored1 N (borrow x t a ls) = ((l : Level-loan) → In l ls → l .level < length N) × ((l : Level-loan) × In l ls × (owner-at N (l .level) ≡ some (a .owner))) × ((u : Ty) × (at-level N (a .owner) ≡ some (own u)))
+Anchored1 N inert = Unit {0}
 
-abbrev pub Homed : List Sh → Type 0
-Homed [] = Unit {0}
-Homed (y ∷ N) = Homed1 N y × Homed N
+abbrev pub Anchored : List Kind → Type 0
+Anchored [] = Unit {0}
+Anchored (y ∷ N) = Anchored1 N y × Anchored N
 
-pub record Sane (N : List Sh) : Type 0 where
-  pub apart : Apart N
-  pub homed : Homed N
+pub record Well-borrowed (N : List Kind) : Type 0 where
+  pub exclusivity : Exclusivity N
+  pub anchored : Anchored N

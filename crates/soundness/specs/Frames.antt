@@ -13,86 +13,86 @@ use Rattle.language.specs.Checks as ch
 use Rattle.language.specs.Meaning.{Value, Values, append, nil-v, cons-v, Name}
 use Rattle.language.specs.Meaning as me
 use Rattle.language.specs.Meaning as me
-use Rattle.soundness.specs.Borrows.{In, Ln, Sh, own, pts, inert, lns}
-use Rattle.soundness.specs.Trees.{Tr, flat}
-use Rattle.soundness.specs.Invariant.{En, flying, rooted}
+use Rattle.soundness.specs.Borrows.{In, Level-loan, Kind, own, borrow, inert, loans-of}
+use Rattle.soundness.specs.Trees.{Tree, flat}
+use Rattle.soundness.specs.Invariant.{Entry, in-flight, rooted}
 
 -- THE FRAME: static names g, the meaning's names d, and their entries F; base: how many entries are under the frame; lend: the loans that the arguments came with
-abbrev pub level-in : ℕ → ch.Env → Lexeme → Option ℕ
-level-in base [] x = none
-level-in base (v ∷ vs) x = choose (same (v .name) x) (some (length vs + base)) (level-in base vs x)
+abbrev pub name-level : ℕ → ch.Env → Lexeme → Option ℕ
+name-level base [] x = none
+name-level base (v ∷ vs) x = choose (same (v .name) x) (some (length vs + base)) (name-level base vs x)
 
 -- each loan is the caller's, or is among the static ones, under its name
-abbrev pub Covers : ℕ → List Ln → ch.Env → List Loan → List Ln → Type 0
-Covers base lend g ls L = (l : Ln) → In l L → In l lend ⊎ ((x : Lexeme) × (level-in base g x ≡ some (l .to)) × In (loan x (l .alone)) ls)
+abbrev pub Loans-cover : ℕ → List Level-loan → ch.Env → List Loan → List Level-loan → Type 0
+Loans-cover base lend g ls L = (l : Level-loan) → In l L → In l lend ⊎ ((x : Lexeme) × (name-level base g x ≡ some (l .level)) × In (loan x (l .alone)) ls)
 
-abbrev pub Suits : Ty → Sh → Type 0
-Suits t (own u) = (t ≡ u) × (owned u ≡ true)
-Suits t (pts true u a ls) = t ≡ mut u
-Suits t (pts false u a ls) = t ≡ ref u
-Suits t inert = ⊥
+abbrev pub Kind-fits : Ty → Kind → Type 0
+Kind-fits t (own u) = (t ≡ u) × (owned u ≡ true)
+Kind-fits t (borrow true u a ls) = t ≡ mut u
+Kind-fits t (borrow false u a ls) = t ≡ ref u
+Kind-fits t inert = ⊥
 
-pub record Match1 (base : ℕ) (lend : List Ln) (g : ch.Env) (v : Var) (m : Name) (e : En) : Type 0 where
+pub record Binding (base : ℕ) (lend : List Level-loan) (g : ch.Env) (v : Var) (m : Name) (e : Entry) : Type 0 where
   pub name : v .name ≡ m .name
   pub place : e .at ≡ rooted (m .root) 0
   pub flag : e .gone ≡ v .gone
-  pub type : Suits (v .ty) (e .sh)
-  pub loans : Covers base lend g (v .loans) (lns (e .sh))
+  pub type : Kind-fits (v .ty) (e .kind)
+  pub loans : Loans-cover base lend g (v .loans) (loans-of (e .kind))
   pub fresh : look g (v .name) ≡ none
 
-abbrev pub Match : ℕ → List Ln → ch.Env → me.Env → List En → Type 0
-Match base lend [] [] [] = Unit {0}
-Match base lend [] [] (e ∷ F) = ⊥
-Match base lend [] (m ∷ d) F = ⊥
-Match base lend (v ∷ g) [] F = ⊥
-Match base lend (v ∷ g) (m ∷ d) [] = ⊥
-Match base lend (v ∷ g) (m ∷ d) (e ∷ F) = Match1 base lend g v m e × Match base lend g d F
+abbrev pub Scope : ℕ → List Level-loan → ch.Env → me.Env → List Entry → Type 0
+Scope base lend [] [] [] = Unit {0}
+Scope base lend [] [] (e ∷ F) = ⊥
+Scope base lend [] (m ∷ d) F = ⊥
+Scope base lend (v ∷ g) [] F = ⊥
+Scope base lend (v ∷ g) (m ∷ d) [] = ⊥
+Scope base lend (v ∷ g) (m ∷ d) (e ∷ F) = Binding base lend g v m e × Scope base lend g d F
 
 -- what's in flight above the frame: held covers its loans
-pub record Flight (v : Value) (t : Ty) (e : En) : Type 0 where
-  pub place : e .at ≡ flying v
+pub record Value-entry (v : Value) (t : Ty) (e : Entry) : Type 0 where
+  pub place : e .at ≡ in-flight v
   pub flag : e .gone ≡ false
-  pub type : Suits t (e .sh)
+  pub type : Kind-fits t (e .kind)
 
-abbrev pub all-lns : List En → List Ln
-all-lns [] = []
-all-lns (e ∷ N) = lns (e .sh) ++ all-lns N
+abbrev pub all-loans-of : List Entry → List Level-loan
+all-loans-of [] = []
+all-loans-of (e ∷ N) = loans-of (e .kind) ++ all-loans-of N
 
 -- arguments in flight, the newest first: their types and values from the first on
-pub data Flown : List En → List Ty → Values → Type 0 where
-  nothing : Flown [] [] nil-v
-  then-one : {A : List En} {ts : List Ty} {vs : Values} (e : En) (t : Ty) (v : Value) → Flown A ts vs → Flight v t e → Flown (e ∷ A) (ts ++ (t ∷ [])) (append vs v)
+pub data Arguments : List Entry → List Ty → Values → Type 0 where
+  no-args : Arguments [] [] nil-v
+  snoc-arg : {A : List Entry} {ts : List Ty} {vs : Values} (e : Entry) (t : Ty) (v : Value) → Arguments A ts vs → Value-entry v t e → Arguments (e ∷ A) (ts ++ (t ∷ [])) (append vs v)
 
 -- entries that are there to be ended, by the meaning's names; and such that nobody points from
-abbrev pub Named : me.Env → List En → Type 0
-Named [] [] = Unit {0}
-Named [] (e ∷ K) = ⊥
-Named (m ∷ ms) [] = ⊥
-Named (m ∷ ms) (e ∷ K) = (e .at ≡ rooted (m .root) 0) × Named ms K
+abbrev pub Roots-named : me.Env → List Entry → Type 0
+Roots-named [] [] = Unit {0}
+Roots-named [] (e ∷ K) = ⊥
+Roots-named (m ∷ ms) [] = ⊥
+Roots-named (m ∷ ms) (e ∷ K) = (e .at ≡ rooted (m .root) 0) × Roots-named ms K
 
-abbrev pub No-refs : List Sh → Type 0
-No-refs [] = Unit {0}
-No-refs (own t ∷ N) = No-refs N
-No-refs (pts al t a ls ∷ N) = ⊥
-No-refs (inert ∷ N) = No-refs N
+abbrev pub No-borrows : List Kind → Type 0
+No-borrows [] = Unit {0}
+No-borrows (own t ∷ N) = No-borrows N
+No-borrows (borrow al t a ls ∷ N) = ⊥
+No-borrows (inert ∷ N) = No-borrows N
 
 -- parts that fall, the first on top
-abbrev pub Falling : Values → List En → Type 0
-Falling nil-v [] = Unit {0}
-Falling nil-v (e ∷ K) = ⊥
-Falling (cons-v v vs) [] = ⊥
-Falling (cons-v v vs) (e ∷ K) = (e .at ≡ flying v) × Falling vs K
+abbrev pub Dropping : Values → List Entry → Type 0
+Dropping nil-v [] = Unit {0}
+Dropping nil-v (e ∷ K) = ⊥
+Dropping (cons-v v vs) [] = ⊥
+Dropping (cons-v v vs) (e ∷ K) = (e .at ≡ in-flight v) × Dropping vs K
 
 -- a frame stands: held are the static loans of what is in flight above it
-pub record Scene (C : List En) (lend : List Ln) (held : List Loan) (g : ch.Env) (d : me.Env) (H F : List En) : Type 0 where
-  pub names : Match (length C) lend g d F
-  pub above : Covers (length C) lend g held (all-lns H)
-  pub under : (l : Ln) → In l lend → l .to < length C
+pub record Frame (C : List Entry) (lend : List Level-loan) (held : List Loan) (g : ch.Env) (d : me.Env) (H F : List Entry) : Type 0 where
+  pub names : Scope (length C) lend g d F
+  pub above : Loans-cover (length C) lend g held (all-loans-of H)
+  pub under : (l : Level-loan) → In l lend → l .level < length C
 
 -- the parameters that are references: theirs are the caller's loans alone
-abbrev pub Lent-pars : List Lexeme → ch.Env → Type 0
-Lent-pars qs g = (x : Lexeme) → is-in x qs ≡ true → (v : Var) × (look g x ≡ some v) × (v .loans ≡ []) × (owned (v .ty) ≡ false)
+abbrev pub Ref-params : List Lexeme → ch.Env → Type 0
+Ref-params qs g = (x : Lexeme) → is-in x qs ≡ true → (v : Var) × (look g x ≡ some v) × (v .loans ≡ []) × (owned (v .ty) ≡ false)
 
 -- parts in flight, the first on top
-abbrev pub part-en : Tr → Ty → En
-part-en x t = record { at = flying (flat x); gone = false; sh = own t }
+abbrev pub owned-entry : Tree → Ty → Entry
+owned-entry x t = record { at = in-flight (flat x); gone = false; kind = own t }

@@ -11,10 +11,10 @@ use Rattle.language.specs.Checks.{Loan, Var, Matched, ok-fn, types-of-pars}
 use Rattle.language.specs.Checks as ch
 use Rattle.language.specs.Meaning.{Loc, Value, Values, State, Limits, Stop, wrong, out-of-fuel, no-heap, no-stack, no-turns, Res, stop, Shape, here, list-of, root-of, read-at, place-of, shape-of, eval, evals, calls, bodies, tails, by-shape, execs, block, exec, by-alt, ends, drops, lasts, parts-of, drops-all, run}
 use Rattle.language.specs.Meaning as me
-use Rattle.soundness.specs.Borrows.{In, Ln, lns}
-use Rattle.soundness.specs.Trees.{Tr, flat, Typed}
-use Rattle.soundness.specs.Invariant.{flying, En, shapes, World}
-use Rattle.soundness.specs.Frames.{Covers, Match, Flight, all-lns, Flown, Named, No-refs, Falling, Scene, Lent-pars, part-en}
+use Rattle.soundness.specs.Borrows.{In, Level-loan, loans-of}
+use Rattle.soundness.specs.Trees.{Tree, flat, Typed}
+use Rattle.soundness.specs.Invariant.{in-flight, Entry, kinds, Invariant}
+use Rattle.soundness.specs.Frames.{Loans-cover, Scope, Value-entry, all-loans-of, Arguments, Roots-named, No-borrows, Dropping, Frame, Ref-params, owned-entry}
 
 -- what doesn't go wrong
 abbrev pub Not-wrong : Stop → Type 0
@@ -29,65 +29,65 @@ Safe P (me.ok a s) = P a s
 Safe P (stop k s) = Not-wrong k
 
 -- what's there behind an expression: the value's entry on top, and the frame's with the flags of the names behind it; all that's under the frame is the same
-pub record After-eval (q : Prog) (C : List En) (lent1 : List Ln) (d : me.Env) (H : List En) (r : ch.Typed) (k : ℕ) (v : Value) (s : State) : Type 0 where
-  pub top : En
-  pub F : List En
-  pub T : List Tr
-  pub flight : Flight v (r .ty) top
-  pub covered : Covers (length C) lent1 (r .env) (r .loans) (lns (top .sh))
-  pub names : Match (length C) lent1 (r .env) d F
-  pub world : World (q .datas) (top ∷ (H ++ (F ++ C))) T s
+pub record After-eval (q : Prog) (C : List Entry) (lent1 : List Level-loan) (d : me.Env) (H : List Entry) (r : ch.Typed) (k : ℕ) (v : Value) (s : State) : Type 0 where
+  pub top : Entry
+  pub F : List Entry
+  pub T : List Tree
+  pub flight : Value-entry v (r .ty) top
+  pub covered : Loans-cover (length C) lent1 (r .env) (r .loans) (loans-of (top .kind))
+  pub names : Scope (length C) lent1 (r .env) d F
+  pub world : Invariant (q .datas) (top ∷ (H ++ (F ++ C))) T s
   pub under : s .under ≡ k
 
-pub record After-args (q : Prog) (C : List En) (lent1 : List Ln) (d : me.Env) (A H : List En) (ts : List Ty) (r : ch.Typed) (k : ℕ) (vs : Values) (s : State) : Type 0 where
-  pub K : List En
-  pub F : List En
-  pub T : List Tr
-  pub flown : Flown (K ++ A) ts vs
-  pub covered : Covers (length C) lent1 (r .env) (r .loans) (all-lns K)
-  pub names : Match (length C) lent1 (r .env) d F
-  pub world : World (q .datas) (K ++ ((A ++ H) ++ (F ++ C))) T s
+pub record After-args (q : Prog) (C : List Entry) (lent1 : List Level-loan) (d : me.Env) (A H : List Entry) (ts : List Ty) (r : ch.Typed) (k : ℕ) (vs : Values) (s : State) : Type 0 where
+  pub K : List Entry
+  pub F : List Entry
+  pub T : List Tree
+  pub flown : Arguments (K ++ A) ts vs
+  pub covered : Loans-cover (length C) lent1 (r .env) (r .loans) (all-loans-of K)
+  pub names : Scope (length C) lent1 (r .env) d F
+  pub world : Invariant (q .datas) (K ++ ((A ++ H) ++ (F ++ C))) T s
   pub under : s .under ≡ k
 
 -- behind a call: what it gives, with no loans but those that the arguments came with
-pub record After-call (q : Prog) (C A : List En) (t : Ty) (k : ℕ) (v : Value) (s : State) : Type 0 where
-  pub top : En
-  pub T : List Tr
-  pub flight : Flight v t top
-  pub loans : (l : Ln) → In l (lns (top .sh)) → In l (all-lns A)
-  pub world : World (q .datas) (top ∷ C) T s
+pub record After-call (q : Prog) (C A : List Entry) (t : Ty) (k : ℕ) (v : Value) (s : State) : Type 0 where
+  pub top : Entry
+  pub T : List Tree
+  pub flight : Value-entry v t top
+  pub loans : (l : Level-loan) → In l (loans-of (top .kind)) → In l (all-loans-of A)
+  pub world : Invariant (q .datas) (top ∷ C) T s
   pub under : s .under ≡ k
 
 -- behind what's given: it stands under the frame, whose references are used no more
-pub record After-give (q : Prog) (C : List En) (lent1 : List Ln) (h : me.Env) (t : Ty) (k : ℕ) (v : Value) (s : State) : Type 0 where
-  pub top : En
-  pub F : List En
-  pub T : List Tr
-  pub flight : Flight v t top
-  pub loans : (l : Ln) → In l (lns (top .sh)) → In l lent1
-  pub named : Named h F
-  pub no-refs : No-refs (shapes F)
-  pub world : World (q .datas) (F ++ (top ∷ C)) T s
+pub record After-give (q : Prog) (C : List Entry) (lent1 : List Level-loan) (h : me.Env) (t : Ty) (k : ℕ) (v : Value) (s : State) : Type 0 where
+  pub top : Entry
+  pub F : List Entry
+  pub T : List Tree
+  pub flight : Value-entry v t top
+  pub loans : (l : Level-loan) → In l (loans-of (top .kind)) → In l lent1
+  pub named : Roots-named h F
+  pub no-refs : No-borrows (kinds F)
+  pub world : Invariant (q .datas) (F ++ (top ∷ C)) T s
   pub under : s .under ≡ k
 
 -- behind statements: newer names on top
-pub record After-exec (q : Prog) (C : List En) (lent1 : List Ln) (g : ch.Env) (d : me.Env) (k : ℕ) (d2 : me.Env) (s : State) : Type 0 where
+pub record After-exec (q : Prog) (C : List Entry) (lent1 : List Level-loan) (g : ch.Env) (d : me.Env) (k : ℕ) (d2 : me.Env) (s : State) : Type 0 where
   pub newer : me.Env
   pub grown : d2 ≡ newer ++ d
-  pub F : List En
-  pub T : List Tr
-  pub names : Match (length C) lent1 g d2 F
-  pub world : World (q .datas) (F ++ C) T s
+  pub F : List Entry
+  pub T : List Tree
+  pub names : Scope (length C) lent1 g d2 F
+  pub world : Invariant (q .datas) (F ++ C) T s
   pub under : s .under ≡ k
 
 -- behind what ends: the rest of the stack
-pub record After-end (q : Prog) (N : List En) (k : ℕ) (s : State) : Type 0 where
-  pub T : List Tr
-  pub world : World (q .datas) N T s
+pub record After-end (q : Prog) (N : List Entry) (k : ℕ) (s : State) : Type 0 where
+  pub T : List Tree
+  pub world : Invariant (q .datas) N T s
   pub under : s .under ≡ k
 
 -- what a match looks at
-pub record Looking (d : me.Env) (x : Lexeme) (l : Loc) (y : Shape) (s : State) : Type 0 where
+pub record Scrutinee (d : me.Env) (x : Lexeme) (l : Loc) (y : Shape) (s : State) : Type 0 where
   pub root : ℕ
   pub val : Value
   pub seen : Value
@@ -99,53 +99,53 @@ pub record Looking (d : me.Env) (x : Lexeme) (l : Loc) (y : Shape) (s : State) :
 
 module _ (q : Prog) (m : Limits) where
   abbrev pub Eval-ok : ℕ → Type 0
-  Eval-ok u = (C : List En) (ln : List Ln) (held : List Loan) (g : ch.Env) (d : me.Env) (H F : List En) (T : List Tr) (s : State) (e : Expr) (r : ch.Typed) → ch.expr q held g e ≡ some r → Scene C ln held g d H F → World (q .datas) (H ++ (F ++ C)) T s → Safe (After-eval q C ln d H r (s .under)) (eval u m q d e s)
+  Eval-ok u = (C : List Entry) (ln : List Level-loan) (held : List Loan) (g : ch.Env) (d : me.Env) (H F : List Entry) (T : List Tree) (s : State) (e : Expr) (r : ch.Typed) → ch.expr q held g e ≡ some r → Frame C ln held g d H F → Invariant (q .datas) (H ++ (F ++ C)) T s → Safe (After-eval q C ln d H r (s .under)) (eval u m q d e s)
 
   abbrev pub Evals-ok : ℕ → Type 0
-  Evals-ok u = (C : List En) (ln : List Ln) (held : List Loan) (g : ch.Env) (d : me.Env) (A H F : List En) (T : List Tr) (s : State) (es : Exprs) (us ts : List Ty) (vs : Values) (r : ch.Typed) → ch.args q held g es ts ≡ some r → Flown A us vs → Scene C ln held g d (A ++ H) F → World (q .datas) ((A ++ H) ++ (F ++ C)) T s → Safe (After-args q C ln d A H (us ++ ts) r (s .under)) (evals u m q d es vs s)
+  Evals-ok u = (C : List Entry) (ln : List Level-loan) (held : List Loan) (g : ch.Env) (d : me.Env) (A H F : List Entry) (T : List Tree) (s : State) (es : Exprs) (us ts : List Ty) (vs : Values) (r : ch.Typed) → ch.args q held g es ts ≡ some r → Arguments A us vs → Frame C ln held g d (A ++ H) F → Invariant (q .datas) ((A ++ H) ++ (F ++ C)) T s → Safe (After-args q C ln d A H (us ++ ts) r (s .under)) (evals u m q d es vs s)
 
   abbrev pub Calls-ok : ℕ → Type 0
-  Calls-ok u = (C A : List En) (T : List Tr) (s : State) (f : Fn) (vs : Values) → ok-fn q f ≡ true → Flown A (types-of-pars (f .pars)) vs → ((l : Ln) → In l (all-lns A) → l .to < length C) → World (q .datas) (A ++ C) T s → Safe (After-call q C A (f .ret) (s .under)) (calls u m q f (list-of vs) s)
+  Calls-ok u = (C A : List Entry) (T : List Tree) (s : State) (f : Fn) (vs : Values) → ok-fn q f ≡ true → Arguments A (types-of-pars (f .pars)) vs → ((l : Level-loan) → In l (all-loans-of A) → l .level < length C) → Invariant (q .datas) (A ++ C) T s → Safe (After-call q C A (f .ret) (s .under)) (calls u m q f (list-of vs) s)
 
   abbrev pub Bodies-ok : ℕ → Type 0
-  Bodies-ok u = (C : List En) (ln : List Ln) (g : ch.Env) (d k h : me.Env) (F : List En) (T : List Tr) (s : State) (qs : List Lexeme) (t : Ty) (x : Body) → ch.is-body q qs t g x ≡ true → Lent-pars qs g → d ≡ k ++ h → Scene C ln [] g d [] F → World (q .datas) (F ++ C) T s → Safe (After-give q C ln h t (s .under)) (bodies u m q d h x s)
+  Bodies-ok u = (C : List Entry) (ln : List Level-loan) (g : ch.Env) (d k h : me.Env) (F : List Entry) (T : List Tree) (s : State) (qs : List Lexeme) (t : Ty) (x : Body) → ch.is-body q qs t g x ≡ true → Ref-params qs g → d ≡ k ++ h → Frame C ln [] g d [] F → Invariant (q .datas) (F ++ C) T s → Safe (After-give q C ln h t (s .under)) (bodies u m q d h x s)
 
   abbrev pub Tails-ok : ℕ → Type 0
-  Tails-ok u = (C : List En) (ln : List Ln) (g : ch.Env) (d : me.Env) (F : List En) (T : List Tr) (s : State) (qs : List Lexeme) (t : Ty) (x : Tail) → ch.is-tail q qs t g x ≡ true → Lent-pars qs g → Scene C ln [] g d [] F → World (q .datas) (F ++ C) T s → Safe (After-give q C ln d t (s .under)) (tails u m q d x s)
+  Tails-ok u = (C : List Entry) (ln : List Level-loan) (g : ch.Env) (d : me.Env) (F : List Entry) (T : List Tree) (s : State) (qs : List Lexeme) (t : Ty) (x : Tail) → ch.is-tail q qs t g x ≡ true → Ref-params qs g → Frame C ln [] g d [] F → Invariant (q .datas) (F ++ C) T s → Safe (After-give q C ln d t (s .under)) (tails u m q d x s)
 
   abbrev pub By-shape-ok : ℕ → Type 0
-  By-shape-ok u = (C : List En) (ln : List Ln) (g : ch.Env) (d : me.Env) (F : List En) (T : List Tr) (s : State) (qs : List Lexeme) (t : Ty) (w : Access) (x : Lexeme) (v : Var) (mm : Matched) (as₁ : Arms) (l : Loc) (y : Shape) → ch.there g x ≡ some v → ch.looks-at q g v w (v .ty) ≡ some mm → ch.covers (mm .data1) (ch.arm-names as₁) ≡ true → ch.are-arms q qs t (mm .env) w (mm .loans) (mm .data1) as₁ ≡ true → Lent-pars qs g → Looking d x l y s → Scene C ln [] g d [] F → World (q .datas) (F ++ C) T s → Safe (After-give q C ln d t (s .under)) (by-shape u m q d w l as₁ y s)
+  By-shape-ok u = (C : List Entry) (ln : List Level-loan) (g : ch.Env) (d : me.Env) (F : List Entry) (T : List Tree) (s : State) (qs : List Lexeme) (t : Ty) (w : Access) (x : Lexeme) (v : Var) (mm : Matched) (as₁ : Arms) (l : Loc) (y : Shape) → ch.there g x ≡ some v → ch.looks-at q g v w (v .ty) ≡ some mm → ch.covers (mm .data1) (ch.arm-names as₁) ≡ true → ch.are-arms q qs t (mm .env) w (mm .loans) (mm .data1) as₁ ≡ true → Ref-params qs g → Scrutinee d x l y s → Frame C ln [] g d [] F → Invariant (q .datas) (F ++ C) T s → Safe (After-give q C ln d t (s .under)) (by-shape u m q d w l as₁ y s)
 
   abbrev pub Execs-ok : ℕ → Type 0
-  Execs-ok u = (C : List En) (ln : List Ln) (g g2 : ch.Env) (d : me.Env) (F : List En) (T : List Tr) (s : State) (x : Stmts) → ch.stmts q g x ≡ some g2 → Scene C ln [] g d [] F → World (q .datas) (F ++ C) T s → Safe (After-exec q C ln g2 d (s .under)) (execs u m q d x s)
+  Execs-ok u = (C : List Entry) (ln : List Level-loan) (g g2 : ch.Env) (d : me.Env) (F : List Entry) (T : List Tree) (s : State) (x : Stmts) → ch.stmts q g x ≡ some g2 → Frame C ln [] g d [] F → Invariant (q .datas) (F ++ C) T s → Safe (After-exec q C ln g2 d (s .under)) (execs u m q d x s)
 
   -- inner names k ++ end, those of h stay: g is gk ++ gh
   abbrev pub Block-ok : ℕ → Type 0
-  Block-ok u = (C : List En) (ln : List Ln) (gk gh g2 : ch.Env) (k h : me.Env) (F : List En) (T : List Tr) (s : State) (x : Stmts) → ch.stmts q (gk ++ gh) x ≡ some g2 → length gk ≡ length k → Scene C ln [] (gk ++ gh) (k ++ h) [] F → World (q .datas) (F ++ C) T s → Safe (λ d2 t. (d2 ≡ h) × After-exec q C ln (ch.outer gh g2) h (s .under) d2 t) (block u m q (k ++ h) h x s)
+  Block-ok u = (C : List Entry) (ln : List Level-loan) (gk gh g2 : ch.Env) (k h : me.Env) (F : List Entry) (T : List Tree) (s : State) (x : Stmts) → ch.stmts q (gk ++ gh) x ≡ some g2 → length gk ≡ length k → Frame C ln [] (gk ++ gh) (k ++ h) [] F → Invariant (q .datas) (F ++ C) T s → Safe (λ d2 t. (d2 ≡ h) × After-exec q C ln (ch.outer gh g2) h (s .under) d2 t) (block u m q (k ++ h) h x s)
 
   abbrev pub Exec-ok : ℕ → Type 0
-  Exec-ok u = (C : List En) (ln : List Ln) (g g2 : ch.Env) (d : me.Env) (F : List En) (T : List Tr) (s : State) (x : Stmt) → ch.stmt q g x ≡ some g2 → Scene C ln [] g d [] F → World (q .datas) (F ++ C) T s → Safe (After-exec q C ln g2 d (s .under)) (exec u m q d x s)
+  Exec-ok u = (C : List Entry) (ln : List Level-loan) (g g2 : ch.Env) (d : me.Env) (F : List Entry) (T : List Tree) (s : State) (x : Stmt) → ch.stmt q g x ≡ some g2 → Frame C ln [] g d [] F → Invariant (q .datas) (F ++ C) T s → Safe (After-exec q C ln g2 d (s .under)) (exec u m q d x s)
 
   abbrev pub By-alt-ok : ℕ → Type 0
-  By-alt-ok u = (C : List En) (ln : List Ln) (g g2 : ch.Env) (d : me.Env) (F : List En) (T : List Tr) (s : State) (w : Access) (x : Lexeme) (v : Var) (mm : Matched) (as₁ : Alts) (l : Loc) (y : Shape) → ch.there g x ≡ some v → ch.looks-at q g v w (v .ty) ≡ some mm → ch.covers (mm .data1) (ch.alt-names as₁) ≡ true → ch.alts q (mm .env) w (mm .loans) (mm .data1) as₁ ≡ some g2 → Looking d x l y s → Scene C ln [] g d [] F → World (q .datas) (F ++ C) T s → Safe (After-exec q C ln g2 d (s .under)) (by-alt u m q d w l as₁ y s)
+  By-alt-ok u = (C : List Entry) (ln : List Level-loan) (g g2 : ch.Env) (d : me.Env) (F : List Entry) (T : List Tree) (s : State) (w : Access) (x : Lexeme) (v : Var) (mm : Matched) (as₁ : Alts) (l : Loc) (y : Shape) → ch.there g x ≡ some v → ch.looks-at q g v w (v .ty) ≡ some mm → ch.covers (mm .data1) (ch.alt-names as₁) ≡ true → ch.alts q (mm .env) w (mm .loans) (mm .data1) as₁ ≡ some g2 → Scrutinee d x l y s → Frame C ln [] g d [] F → Invariant (q .datas) (F ++ C) T s → Safe (After-exec q C ln g2 d (s .under)) (by-alt u m q d w l as₁ y s)
 
   abbrev pub Ends-ok : ℕ → Type 0
-  Ends-ok u = (K N : List En) (T : List Tr) (s : State) (d : me.Env) → Named d K → World (q .datas) (K ++ N) T s → Safe (λ k t. After-end q N (s .under) t) (ends u m q d s)
+  Ends-ok u = (K N : List Entry) (T : List Tree) (s : State) (d : me.Env) → Roots-named d K → Invariant (q .datas) (K ++ N) T s → Safe (λ k t. After-end q N (s .under) t) (ends u m q d s)
 
   abbrev pub Drops-ok : ℕ → Type 0
-  Drops-ok u = (e : En) (N : List En) (T : List Tr) (s : State) (v : Value) → e .at ≡ flying v → World (q .datas) (e ∷ N) T s → Safe (λ k t. After-end q N (s .under) t) (drops u m q v s)
+  Drops-ok u = (e : Entry) (N : List Entry) (T : List Tree) (s : State) (v : Value) → e .at ≡ in-flight v → Invariant (q .datas) (e ∷ N) T s → Safe (λ k t. After-end q N (s .under) t) (drops u m q v s)
 
   -- the last function f of data x: a typed tree in flight
   abbrev pub Lasts-ok : ℕ → Type 0
-  Lasts-ok u = (N : List En) (x : Tr) (T : List Tr) (s : State) (w : Lexeme) (f : Fn) → ok-fn q f ≡ true → types-of-pars (f .pars) ≡ mut (dat w) ∷ [] → f .ret ≡ int → Typed (q .datas) x (dat w) → World (q .datas) (part-en x (dat w) ∷ N) (x ∷ T) s → Safe (λ k t. After-end q N (s .under) t) (lasts u m q f (flat x) s)
+  Lasts-ok u = (N : List Entry) (x : Tree) (T : List Tree) (s : State) (w : Lexeme) (f : Fn) → ok-fn q f ≡ true → types-of-pars (f .pars) ≡ mut (dat w) ∷ [] → f .ret ≡ int → Typed (q .datas) x (dat w) → Invariant (q .datas) (owned-entry x (dat w) ∷ N) (x ∷ T) s → Safe (λ k t. After-end q N (s .under) t) (lasts u m q f (flat x) s)
 
   abbrev pub Parts-ok : ℕ → Type 0
-  Parts-ok u = (N : List En) (x : Tr) (T : List Tr) (s : State) (w : Lexeme) → Typed (q .datas) x (dat w) → World (q .datas) (part-en x (dat w) ∷ N) (x ∷ T) s → Safe (λ k t. After-end q N (s .under) t) (parts-of u m q (flat x) s)
+  Parts-ok u = (N : List Entry) (x : Tree) (T : List Tree) (s : State) (w : Lexeme) → Typed (q .datas) x (dat w) → Invariant (q .datas) (owned-entry x (dat w) ∷ N) (x ∷ T) s → Safe (λ k t. After-end q N (s .under) t) (parts-of u m q (flat x) s)
 
   abbrev pub Drops-all-ok : ℕ → Type 0
-  Drops-all-ok u = (K N : List En) (T : List Tr) (s : State) (vs : Values) → Falling vs K → World (q .datas) (K ++ N) T s → Safe (λ k t. After-end q N (s .under) t) (drops-all u m q vs s)
+  Drops-all-ok u = (K N : List Entry) (T : List Tree) (s : State) (vs : Values) → Dropping vs K → Invariant (q .datas) (K ++ N) T s → Safe (λ k t. After-end q N (s .under) t) (drops-all u m q vs s)
 
-pub record All (q : Prog) (m : Limits) (u : ℕ) : Type 0 where
+pub record Preserved (q : Prog) (m : Limits) (u : ℕ) : Type 0 where
   pub eval-ok : Eval-ok q m u
   pub evals-ok : Evals-ok q m u
   pub calls-ok : Calls-ok q m u
@@ -164,7 +164,7 @@ pub record All (q : Prog) (m : Limits) (u : ℕ) : Type 0 where
 
 -- of an accepted program, at every fuel
 abbrev pub Invariant-kept : Type 0
-Invariant-kept = (q : Prog) (m : Limits) → ch.accepts q ≡ true → (u : ℕ) → All q m u
+Invariant-kept = (q : Prog) (m : Limits) → ch.accepts q ≡ true → (u : ℕ) → Preserved q m u
 
 -- so its runs are safe: behind one, the value that main gives is a number, in flight over an empty stack
 abbrev pub Run-safe : Type 0

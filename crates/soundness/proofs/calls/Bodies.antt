@@ -10,17 +10,17 @@ use Rattle.language.specs.Syntax.{Prog, body}
 use Rattle.language.specs.Checks as ch
 use Rattle.language.specs.Meaning.{Value, State, Limits, Res, tails, execs, ends, newer}
 use Rattle.language.specs.Meaning as me
-use Rattle.soundness.specs.Invariant.{shapes, World}
-use Rattle.soundness.specs.Frames.{Named, No-refs}
-use Rattle.soundness.specs.Preserved.{Safe, After-give, After-exec, After-end, Bodies-ok, All}
+use Rattle.soundness.specs.Invariant.{kinds, Invariant}
+use Rattle.soundness.specs.Frames.{Roots-named, No-borrows}
+use Rattle.soundness.specs.Preserved.{Safe, After-give, After-exec, After-end, Bodies-ok, Preserved}
 use Rattle.soundness.proofs.Basics.{true-false}
-use Rattle.soundness.proofs.statics.Scopes.{match-distinct, grows-lent}
-use Rattle.soundness.proofs.statics.Grows.{stmts-grows}
-use Rattle.soundness.proofs.frames.Parted.{newer-is, named-parted}
-use Rattle.soundness.proofs.Claims.{safe-then}
-use Rattle.soundness.proofs.stmts.Blocks.{no-refs-under}
+use Rattle.soundness.proofs.statics.Scopes.{scope-distinct, grows-lent}
+use Rattle.soundness.proofs.statics.Stmts.{stmts-grows}
+use Rattle.soundness.proofs.frames.Parts.{newer-is, roots-parted}
+use Rattle.soundness.proofs.Safety.{safe-then}
+use Rattle.soundness.proofs.stmts.Blocks.{no-borrows-under}
 
-pub bodies-suc : (q : Prog) (m : Limits) (u : ℕ) → ch.accepts q ≡ true → All q m u → Bodies-ok q m (suc u)
+pub bodies-suc : (q : Prog) (m : Limits) (u : ℕ) → ch.accepts q ≡ true → Preserved q m u → Bodies-ok q m (suc u)
 unfolding me.eval
 bodies-suc q m u o hyp C ln g d k h F T s qs t (body ss tl) e lp d-is sc w = go (ch.stmts q g ss) refl e
   where
@@ -36,7 +36,7 @@ bodies-suc q m u o hyp C ln g d k h F T s qs t (body ss tl) e lp d-is sc w = go 
       where
         behind : (i : me.Env) (z : State) → After-exec q C ln g2 d (s .under) i z → Safe Post (rest i z)
         behind i z a = safe-then (After-give q C ln i t (z .under)) Post (tails u m q i tl z) (λ v y. me.then (ends u m q (newer i h) y) (λ j x. me.ok v x))
-            (hyp .tails-ok C ln g2 i (a .F) (a .T) z qs t tl e1 (grows-lent qs g g2 (stmts-grows q g ss g2 (match-distinct (length C) ln g d F (sc .names)) eq) lp) (record { names = a .names; above = λ l j. absurd j; under = sc .under }) (a .world))
+            (hyp .tails-ok C ln g2 i (a .F) (a .T) z qs t tl e1 (grows-lent qs g g2 (stmts-grows q g ss g2 (scope-distinct (length C) ln g d F (sc .names)) eq) lp) (record { names = a .names; above = λ l j. absurd j; under = sc .under }) (a .world))
             given
           where
             i-is : i ≡ (a .newer ++ k) ++ h
@@ -47,8 +47,8 @@ bodies-suc q m u o hyp C ln g d k h F T s qs t (body ss tl) e lp d-is sc w = go 
 
             given : (v : Value) (y : State) → After-give q C ln i t (z .under) v y → Safe Post (me.then (ends u m q (newer i h) y) (λ j x. me.ok v x))
             given v y b =
-                let pa = named-parted (a .newer ++ k) h (b .F) (subst (λ j. Named j (b .F)) i-is (b .named)) in
+                let pa = roots-parted (a .newer ++ k) h (b .F) (subst (λ j. Roots-named j (b .F)) i-is (b .named)) in
                 subst (λ j. Safe Post (me.then (ends u m q j y) (λ j1 x. me.ok v x))) (sym new-is)
                 (safe-then (λ j x. After-end q (pa .1 ++ (b .top ∷ C)) (y .under) x) Post (ends u m q (a .newer ++ k) y) (λ j x. me.ok v x)
-                (hyp .ends-ok (pa .0) (pa .1 ++ (b .top ∷ C)) (b .T) y (a .newer ++ k) (pa .3) (subst (λ j. World (q .datas) j (b .T) y) (ap (λ j. j ++ (b .top ∷ C)) (pa .2) ∙ append-assoc (pa .0) (pa .1) (b .top ∷ C)) (b .world)))
-                (λ j x f. record { top = b .top; F = pa .1; T = f .T; flight = b .flight; loans = b .loans; named = pa .4; no-refs = no-refs-under (pa .0) (pa .1) (subst (λ y1. No-refs (shapes y1)) (pa .2) (b .no-refs)); world = f .world; under = f .under ∙ b .under ∙ a .under }))
+                (hyp .ends-ok (pa .0) (pa .1 ++ (b .top ∷ C)) (b .T) y (a .newer ++ k) (pa .3) (subst (λ j. Invariant (q .datas) j (b .T) y) (ap (λ j. j ++ (b .top ∷ C)) (pa .2) ∙ append-assoc (pa .0) (pa .1) (b .top ∷ C)) (b .world)))
+                (λ j x f. record { top = b .top; F = pa .1; T = f .T; flight = b .flight; loans = b .loans; named = pa .4; no-refs = no-borrows-under (pa .0) (pa .1) (subst (λ y1. No-borrows (kinds y1)) (pa .2) (b .no-refs)); world = f .world; under = f .under ∙ b .under ∙ a .under }))

@@ -13,15 +13,15 @@ use Rattle.language.specs.Checks.{Var, types-of-pars, owned, look, enter, pars-
 use Rattle.language.specs.Checks as ch
 use Rattle.language.specs.Meaning.{Value, Values, State, Limits, list-of, with-under, bodies, append, nil-v, cons-v, adds-root, roots-in, names-in, names-of, frame}
 use Rattle.language.specs.Meaning as me
-use Rattle.soundness.specs.Borrows.{In, Ln, lns}
-use Rattle.soundness.specs.Trees.{Tr}
-use Rattle.soundness.specs.Invariant.{En, World}
-use Rattle.soundness.specs.Frames.{Suits, Match, Flight, all-lns, Flown, nothing, then-one, Named}
-use Rattle.soundness.specs.Preserved.{After-call, After-give, Calls-ok, All}
+use Rattle.soundness.specs.Borrows.{In, Level-loan, loans-of}
+use Rattle.soundness.specs.Trees.{Tree}
+use Rattle.soundness.specs.Invariant.{Entry, Invariant}
+use Rattle.soundness.specs.Frames.{Kind-fits, Scope, Value-entry, all-loans-of, Arguments, no-args, snoc-arg, Roots-named}
+use Rattle.soundness.specs.Preserved.{After-call, After-give, Calls-ok, Preserved}
 use Rattle.soundness.proofs.Basics.{no-some, some-is, append-nil, bool-case, true-false, and-left, and-right, or-case, same-is, same-self, in-left, in-right, not-true}
-use Rattle.soundness.proofs.world.Ops.{world-same, land}
-use Rattle.soundness.proofs.world.Lands.{land-mid}
-use Rattle.soundness.proofs.Claims.{safe-need, safe-turn, safe-under}
+use Rattle.soundness.proofs.invariant.Top.{invariant-same, with-root}
+use Rattle.soundness.proofs.invariant.Rooting.{root-mid}
+use Rattle.soundness.proofs.Safety.{safe-need, safe-turn, safe-under}
 
 -- names that are not twice
 or-false : (x y : Bool) → (x || y) ≡ false → (x ≡ false) × (y ≡ false)
@@ -101,56 +101,56 @@ in-last g g1 s (y ∷ xs) [] x v e = absurd (no-some e)
 in-last g g1 s (y ∷ xs) (w ∷ vs) x v e = in-last (record { name = y; root = length (s .roots) } ∷ g) g1 (adds-root s w 0) xs vs x v e
 
 -- ARGUMENTS BECOME NAMES, under X that's still in flight
-pub record Entered (ds : List Data) (X C : List En) (ln : List Ln) (T : List Tr) (s : State) (ps : List Param) (vs : Values) : Type 0 where
+pub record Entered (ds : List Data) (X C : List Entry) (ln : List Level-loan) (T : List Tree) (s : State) (ps : List Param) (vs : Values) : Type 0 where
   pub env : me.Env
-  pub F : List En
+  pub F : List Entry
   pub named : names-in [] s (names-of ps) (list-of vs) ≡ some env
-  pub names : Match (length C) ln (pars-env ps []) env F
-  pub world : World ds (X ++ (F ++ C)) T (roots-in s (list-of vs))
+  pub names : Scope (length C) ln (pars-env ps []) env F
+  pub world : Invariant ds (X ++ (F ++ C)) T (roots-in s (list-of vs))
 
-entered-one : (ds : List Data) (X C : List En) (ln : List Ln) (T : List Tr) (s : State) (qs : List Param) (y : Param) (vs1 : Values) (e1 : En) (t : Ty) (v : Value) → y .ty ≡ t → Flight v t e1 → is-in (y .name) (names-of-pars qs) ≡ false → ((l : Ln) → In l (lns (e1 .sh)) → In l ln) → Entered ds (X ++ (e1 ∷ [])) C ln T s qs vs1 → Entered ds X C ln T s (qs ++ (y ∷ [])) (append vs1 v)
+entered-one : (ds : List Data) (X C : List Entry) (ln : List Level-loan) (T : List Tree) (s : State) (qs : List Param) (y : Param) (vs1 : Values) (e1 : Entry) (t : Ty) (v : Value) → y .ty ≡ t → Value-entry v t e1 → is-in (y .name) (names-of-pars qs) ≡ false → ((l : Level-loan) → In l (loans-of (e1 .kind)) → In l ln) → Entered ds (X ++ (e1 ∷ [])) C ln T s qs vs1 → Entered ds X C ln T s (qs ++ (y ∷ [])) (append vs1 v)
 entered-one ds X C ln T s qs y vs1 e1 t v t-is fg out low h = record {
   env = record { name = y .name; root = r } ∷ h .env;
-  F = land e1 r ∷ h .F;
+  F = with-root e1 r ∷ h .F;
   named = subst (λ z. names-in [] s z (list-of (append vs1 v)) ≡ some (record { name = y .name; root = r } ∷ h .env)) (names-last qs y) (subst (λ z. names-in [] s (names-of qs ++ (y .name ∷ [])) z ≡ some (record { name = y .name; root = r } ∷ h .env)) (list-last vs1 v) (in-last [] (h .env) s (names-of qs) (list-of vs1) (y .name) v (h .named)));
-  names = subst (λ z. Match (length C) ln z (record { name = y .name; root = r } ∷ h .env) (land e1 r ∷ h .F)) (env-last qs y []) (
+  names = subst (λ z. Scope (length C) ln z (record { name = y .name; root = r } ∷ h .env) (with-root e1 r ∷ h .F)) (env-last qs y []) (
     record {
       name = refl;
       place = refl;
       flag = fg .flag;
-      type = subst (λ z. Suits z (e1 .sh)) (sym t-is) (fg .type);
+      type = subst (λ z. Kind-fits z (e1 .kind)) (sym t-is) (fg .type);
       loans = λ l i. inl (low l i);
       fresh = look-kept qs [] (y .name) out;
     },
     h .names,
   );
-  world = subst (World ds (X ++ (land e1 r ∷ (h .F ++ C))) T) (sym (roots-last s vs1 v)) (land-mid ds X e1 v (h .F ++ C) T (roots-in s (list-of vs1)) (fg .place) w2);
+  world = subst (Invariant ds (X ++ (with-root e1 r ∷ (h .F ++ C))) T) (sym (roots-last s vs1 v)) (root-mid ds X e1 v (h .F ++ C) T (roots-in s (list-of vs1)) (fg .place) w2);
 }
   where
     r : ℕ
     r = length (roots-in s (list-of vs1) .roots)
 
-    w2 : World ds (X ++ (e1 ∷ (h .F ++ C))) T (roots-in s (list-of vs1))
-    w2 = subst (λ z. World ds z T (roots-in s (list-of vs1))) (append-assoc X (e1 ∷ []) (h .F ++ C)) (h .world)
+    w2 : Invariant ds (X ++ (e1 ∷ (h .F ++ C))) T (roots-in s (list-of vs1))
+    w2 = subst (λ z. Invariant ds z T (roots-in s (list-of vs1))) (append-assoc X (e1 ∷ []) (h .F ++ C)) (h .world)
 
-pub entered : (ds : List Data) (X C : List En) (ln : List Ln) (T : List Tr) (s : State) (ps : List Param) (A : List En) (ts : List Ty) (vs : Values) → Flown A ts vs → types-of-pars ps ≡ ts → no-twice (names-of-pars ps) ≡ true → ((l : Ln) → In l (all-lns A) → In l ln) → World ds (X ++ (A ++ C)) T s → Entered ds X C ln T s ps vs
-entered ds X C ln T s [] [] [] nil-v nothing e nt low w = record { env = []; F = []; named = refl; names = tt; world = w }
-entered ds X C ln T s (x ∷ ps) [] [] nil-v nothing e nt low w = absurd (let k : suc (length (types-of-pars ps)) ≡ 0 = ap length e in omega arith)
-entered ds X C ln T s ps A ts vs (then-one {A = A1} {ts = ts1} {vs = vs1} e1 t v fl fg) e nt low w =
+pub entered : (ds : List Data) (X C : List Entry) (ln : List Level-loan) (T : List Tree) (s : State) (ps : List Param) (A : List Entry) (ts : List Ty) (vs : Values) → Arguments A ts vs → types-of-pars ps ≡ ts → no-twice (names-of-pars ps) ≡ true → ((l : Level-loan) → In l (all-loans-of A) → In l ln) → Invariant ds (X ++ (A ++ C)) T s → Entered ds X C ln T s ps vs
+entered ds X C ln T s [] [] [] nil-v no-args e nt low w = record { env = []; F = []; named = refl; names = tt; world = w }
+entered ds X C ln T s (x ∷ ps) [] [] nil-v no-args e nt low w = absurd (let k : suc (length (types-of-pars ps)) ≡ 0 = ap length e in omega arith)
+entered ds X C ln T s ps A ts vs (snoc-arg {A = A1} {ts = ts1} {vs = vs1} e1 t v fl fg) e nt low w =
     let sp = types-last ps ts1 t e in
     let nt2 = last-new (sp .0) (sp .1) (subst (λ z. no-twice (names-of-pars z) ≡ true) (sp .2) nt) in
-    let h = entered ds (X ++ (e1 ∷ [])) C ln T s (sp .0) A1 ts1 vs1 fl (sp .3) (nt2 .0) (λ l i. low l (in-right l (lns (e1 .sh)) (all-lns A1) i)) (subst (λ z. World ds z T s) (sym (append-assoc X (e1 ∷ []) (A1 ++ C))) w) in
-    subst (λ z. Entered ds X C ln T s z (append vs1 v)) (sym (sp .2)) (entered-one ds X C ln T s (sp .0) (sp .1) vs1 e1 t v (sp .4) fg (nt2 .1) (λ l i. low l (in-left l (lns (e1 .sh)) (all-lns A1) i)) h)
+    let h = entered ds (X ++ (e1 ∷ [])) C ln T s (sp .0) A1 ts1 vs1 fl (sp .3) (nt2 .0) (λ l i. low l (in-right l (loans-of (e1 .kind)) (all-loans-of A1) i)) (subst (λ z. Invariant ds z T s) (sym (append-assoc X (e1 ∷ []) (A1 ++ C))) w) in
+    subst (λ z. Entered ds X C ln T s z (append vs1 v)) (sym (sp .2)) (entered-one ds X C ln T s (sp .0) (sp .1) vs1 e1 t v (sp .4) fg (nt2 .1) (λ l i. low l (in-left l (loans-of (e1 .kind)) (all-loans-of A1) i)) h)
 
 -- A CALL
-given-call : (q : Prog) (C A : List En) (t : Ty) (j k : ℕ) (v : Value) (s : State) → After-give q C (all-lns A) [] t j v s → After-call q C A t k v (with-under s k)
+given-call : (q : Prog) (C A : List Entry) (t : Ty) (j k : ℕ) (v : Value) (s : State) → After-give q C (all-loans-of A) [] t j v s → After-call q C A t k v (with-under s k)
 given-call q C A t j k v s a = go (a .F) (a .named) (a .world)
   where
-    go : (F : List En) → Named [] F → World (q .datas) (F ++ (a .top ∷ C)) (a .T) s → After-call q C A t k v (with-under s k)
-    go [] nm w = record { top = a .top; T = a .T; flight = a .flight; loans = a .loans; world = world-same (q .datas) (a .top ∷ C) (a .T) s (with-under s k) refl refl w; under = refl }
+    go : (F : List Entry) → Roots-named [] F → Invariant (q .datas) (F ++ (a .top ∷ C)) (a .T) s → After-call q C A t k v (with-under s k)
+    go [] nm w = record { top = a .top; T = a .T; flight = a .flight; loans = a .loans; world = invariant-same (q .datas) (a .top ∷ C) (a .T) s (with-under s k) refl refl w; under = refl }
     go (e ∷ F) nm w = absurd nm
 
-pub calls-suc : (q : Prog) (m : Limits) (u : ℕ) → ch.accepts q ≡ true → All q m u → Calls-ok q m (suc u)
+pub calls-suc : (q : Prog) (m : Limits) (u : ℕ) → ch.accepts q ≡ true → Preserved q m u → Calls-ok q m (suc u)
 unfolding me.eval
 calls-suc q m u o h C A T s f vs ok1 fl low w =
     safe-turn (After-call q C A (f .ret) (s .under)) m s (λ t. me.goes-under m (frame q f) t (λ z. me.need z (names-in [] z (names-of (f .pars)) (list-of vs)) (λ g. bodies u m q g [] (f .does) (roots-in z (list-of vs)))))
@@ -160,8 +160,8 @@ calls-suc q m u o h C A T s f vs ok1 fl low w =
     (record { names = en .names; above = λ l i. absurd i; under = low }) (en .world)))
     (λ v t a. given-call q C A (f .ret) (roots-in s2 (list-of vs) .under) (s .under) v t a))
   where
-    ln : List Ln
-    ln = all-lns A
+    ln : List Level-loan
+    ln = all-loans-of A
 
     s1 : State
     s1 = record { roots = s .roots; classes = s .classes; under = s .under; turns = suc (s .turns); ins = s .ins; outs = s .outs }
@@ -176,4 +176,4 @@ calls-suc q m u o h C A T s f vs ok1 fl low w =
     is-b = and-right (each-of (well-made (q .datas)) (f .ret ∷ types-of-pars (f .pars))) (is-body q (ref-pars (f .pars)) (f .ret) (pars-env (f .pars) []) (f .does)) (and-right (no-twice (names-of-pars (f .pars))) (each-of (well-made (q .datas)) (f .ret ∷ types-of-pars (f .pars)) && is-body q (ref-pars (f .pars)) (f .ret) (pars-env (f .pars) []) (f .does)) ok1)
 
     en : Entered (q .datas) [] C ln T s2 (f .pars) vs
-    en = entered (q .datas) [] C ln T s2 (f .pars) A (types-of-pars (f .pars)) vs fl refl nt (λ l i. i) (world-same (q .datas) (A ++ C) T s s2 refl refl w)
+    en = entered (q .datas) [] C ln T s2 (f .pars) A (types-of-pars (f .pars)) vs fl refl nt (λ l i. i) (invariant-same (q .datas) (A ++ C) T s s2 refl refl w)

@@ -5,13 +5,13 @@ use Prim.Native.Nat.{ℕ, suc}
 use Rattle.language.specs.Syntax.{num, var, op, ctor, boxed, call, share, lend, load, get-e, Prog}
 use Rattle.language.specs.Checks as ch
 use Rattle.language.specs.Meaning.{Limits}
-use Rattle.soundness.specs.Preserved.{Eval-ok, All}
+use Rattle.soundness.specs.Preserved.{Eval-ok, Preserved}
 use Rattle.soundness.proofs.exprs.Ints.{num-step, read-step, op-step, load-step}
 use Rattle.soundness.proofs.exprs.Names.{var-step, share-step}
-use Rattle.soundness.proofs.exprs.Lends.{lend-step}
-use Rattle.soundness.proofs.exprs.Makes.{ctor-step, boxed-step, call-step}
+use Rattle.soundness.proofs.exprs.Lend.{lend-step}
+use Rattle.soundness.proofs.exprs.Construct.{ctor-step, boxed-step, call-step}
 
-pub eval-suc : (q : Prog) (m : Limits) (u : ℕ) → ch.accepts q ≡ true → All q m u → Eval-ok q m (suc u)
+pub eval-suc : (q : Prog) (m : Limits) (u : ℕ) → ch.accepts q ≡ true → Preserved q m u → Eval-ok q m (suc u)
 eval-suc q m u o h C ln held g d H F T s (num k) r e sc w = num-step q m u C ln held g d H F T s k r e sc w
 eval-suc q m u o h C ln held g d H F T s (var x) r e sc w = var-step q m u C ln held g d H F T s x r e sc w
 eval-suc q m u o h C ln held g d H F T s (op i a1 a2) r e sc w = op-step q m u h C ln held g d H F T s i a1 a2 r e sc w

@@ -14,7 +14,7 @@ use Rattle.language.specs.Meaning.{Loc, Value, int-v, con-v, Values, State, Lim
 use Rattle.language.specs.Says.{Enough-fuel}
 use Rattle.soundness.specs.Fuel.{Fuel-for-any}
 use Rattle.soundness.proofs.fuel.Kept.{≼-trans, write-at-keeps, taken-keeps, kill-keeps, ends-box-keeps, roots-in-keeps}
-use Rattle.soundness.proofs.fuel.Halting.{Fine, fine-ok, fine-stop, Halts, at-once, ok-halts, step, weaken, then-halts, need-halts, choose-halts, Room, Less, less-room, lower-room, turn-halts, call-under, drop-under, room-by}
+use Rattle.soundness.proofs.fuel.Halting.{Settled-well, well-ok, well-stop, Halts, at-once, ok-halts, step, weaken, then-halts, need-halts, choose-halts, Room, Less, less-room, lower-room, turn-halts, call-under, drop-under, room-by}
 
 module _ (m : Limits) (q : Prog) where
   pub record Level (T : ℕ) : Type 0 where
@@ -80,10 +80,10 @@ module _ (m : Limits) (q : Prog) (T : ℕ) (lower : (j : ℕ) → suc j ≡ T �
   moves-halts K s i (con-v k vs) r = need-halts s _ (λ t e. ok-halts (room-by (write-at-keeps s (here i) hole e) r))
   moves-halts K s i (box-v j) r = need-halts s _ (λ t e. ok-halts (room-by (write-at-keeps s (here i) hole e) r))
   moves-halts K s i (ref-v l) r = ok-halts r
-  moves-halts K s i hole r = at-once (fine-stop (λ e. grind arith))
+  moves-halts K s i hole r = at-once (well-stop (λ e. grind arith))
 
   makes-halts : (K : ℕ) (s : State) (v : Value) (k : ℕ) → Room m T K s → Halts (Room m T K) (λ u. makes-box m s v k)
-  makes-halts K s v k r = choose-halts _ {x = λ u. ok _ _} {y = λ u. stop _ _} (λ e. ok-halts (record { turns-left = r .turns-left; words-left = r .words-left })) (λ e. at-once (fine-stop (λ x. grind arith)))
+  makes-halts K s v k r = choose-halts _ {x = λ u. ok _ _} {y = λ u. stop _ _} (λ e. ok-halts (record { turns-left = r .turns-left; words-left = r .words-left })) (λ e. at-once (well-stop (λ x. grind arith)))
 
   mutual
     unfolding eval
@@ -163,9 +163,9 @@ every-level m q (suc T) = this-level m q (suc T) (λ j e. let x : j ≡ T = omeg
 pub run-halts : (m : Limits) (q : Prog) (ins : List ℕ) → Halts (Less m (suc (m .max-turns)) (m .stack)) (λ u. run u m q ins)
 run-halts m q ins = need-halts (blank ins) (fn-named (q .funs) w-main) (λ f _. calls-halts m q (suc (m .max-turns)) (λ j e. every-level m q j) (m .stack) f [] (blank ins) (record { turns-left = omega arith; words-left = omega arith }))
 
-not-late : {A : Type 0} {R : State → Type 0} {r : Res A} → Fine R r → (s : State) → r ≡ stop out-of-fuel s → ⊥
-not-late (fine-ok h) s e = grind arith
-not-late (fine-stop h) s e = h (cc)
+not-late : {A : Type 0} {R : State → Type 0} {r : Res A} → Settled-well R r → (s : State) → r ≡ stop out-of-fuel s → ⊥
+not-late (well-ok h) s e = grind arith
+not-late (well-stop h) s e = h (cc)
 
 -- of any program, accepted or not
 pub fuel-for-any : Fuel-for-any

@@ -1,5 +1,5 @@
 use Rattle.soundness.proofs.invariant_kept.Needs as need
-use Rattle.soundness.proofs.Whole.{all-ok}
+use Rattle.soundness.proofs.Theorems.{preserved}
 
 pub returns : need.returns
-returns c = all-ok
+returns c = preserved

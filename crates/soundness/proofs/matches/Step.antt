@@ -12,30 +12,30 @@ use Rattle.language.specs.Checks.{Var, Matched, loan, look, is-free, readable, 
 use Rattle.language.specs.Checks as ch
 use Rattle.language.specs.Meaning.{Value, con-v, State, Limits, Shape, here, root-of, read-at, place-of, shape-of, bodies, tails, by-shape, block, exec, by-alt, shape, roots-in, taken, names-in, parts, find-alt, find-arm}
 use Rattle.language.specs.Meaning as me
-use Rattle.soundness.specs.Trees.{Tr, num, con, bx, void, flat, flats, Typed}
-use Rattle.soundness.specs.Borrows.{Addr, Ln, Sh, own, pts}
-use Rattle.soundness.specs.Invariant.{rooted, En, shapes, Content, Points, Fine1, World}
-use Rattle.soundness.specs.Frames.{Suits, Match, Scene, Lent-pars}
-use Rattle.soundness.specs.Preserved.{Safe, After-give, After-exec, Looking, By-shape-ok, By-alt-ok, All}
+use Rattle.soundness.specs.Trees.{Tree, int-t, con-t, box-t, hole-t, flat, flats, Typed}
+use Rattle.soundness.specs.Borrows.{Addr, Level-loan, Kind, own, borrow}
+use Rattle.soundness.specs.Invariant.{rooted, Entry, kinds, Content, Valid-ref, Entry-ok, Invariant}
+use Rattle.soundness.specs.Frames.{Kind-fits, Scope, Frame, Ref-params}
+use Rattle.soundness.specs.Preserved.{Safe, After-give, After-exec, Scrutinee, By-shape-ok, By-alt-ok, Preserved}
 use Rattle.soundness.proofs.Basics.{no-some, some-is, if-some-is, only-is, true-false, and-left, and-right}
-use Rattle.soundness.proofs.world.Ops.{reads}
-use Rattle.soundness.proofs.world.Refs.{homed-up, points-read}
-use Rattle.soundness.proofs.statics.Likes.{Like}
+use Rattle.soundness.proofs.invariant.Top.{reads}
+use Rattle.soundness.proofs.invariant.Borrows.{anchored-at, valid-ref-read}
+use Rattle.soundness.proofs.statics.Exprs.{Env-like}
 use Rattle.soundness.proofs.statics.Rules.{there-is}
-use Rattle.soundness.proofs.statics.Scopes.{Distinct, match-distinct, like-distinct, grows-lent, bind-grows, looks-like}
-use Rattle.soundness.proofs.statics.Grows.{Alt-found, alt-found}
-use Rattle.soundness.proofs.statics.Choices.{covered, found-alt, ChosenArm, from-is, chosen-arm}
-use Rattle.soundness.proofs.frames.Places.{Placed, placed-at}
-use Rattle.soundness.proofs.Claims.{safe-need, safe-weaken, after-weak}
-use Rattle.soundness.proofs.matches.Parts.{Bound}
-use Rattle.soundness.proofs.matches.Looks.{place-con, Looked}
-use Rattle.soundness.proofs.matches.Sights.{suits-dat, suits-ref, suits-mut, matched-is, data-of-is, looks}
+use Rattle.soundness.proofs.statics.Scopes.{Distinct, scope-distinct, like-distinct, grows-lent, bind-grows, looks-like}
+use Rattle.soundness.proofs.statics.Stmts.{Alt-found, alt-found}
+use Rattle.soundness.proofs.statics.Alternatives.{covered, found-alt, ChosenArm, from-is, chosen-arm}
+use Rattle.soundness.proofs.frames.Lookup.{Name-at, name-at}
+use Rattle.soundness.proofs.Safety.{safe-need, safe-weaken, after-weak}
+use Rattle.soundness.proofs.matches.Patterns.{Bound}
+use Rattle.soundness.proofs.matches.View.{place-con, Looked}
+use Rattle.soundness.proofs.matches.Scrutinee.{fits-dat, fits-ref, fits-mut, matched-is, data-of-is, looks}
 
 -- the fields of one constructor, found twice
 same-ctor : (x y : Ctor) (o : Option Ctor) → o ≡ some x → o ≡ some y → x ≡ y
 same-ctor x y o e f = some-is (sym e ∙ f)
 
-pub by-alt-suc : (q : Prog) (m : Limits) (u : ℕ) → ch.accepts q ≡ true → All q m u → By-alt-ok q m (suc u)
+pub by-alt-suc : (q : Prog) (m : Limits) (u : ℕ) → ch.accepts q ≡ true → Preserved q m u → By-alt-ok q m (suc u)
 unfolding me.eval
 by-alt-suc q m u o h C ln g g2 d F T s w x v mm as₁ l (shape k vs) th la cv al lk sc wo =
     safe-need P s (find-alt as₁ k) (λ a. me.need s (taken w s l) (λ t. me.need t (names-in d t (a .names) (parts w l vs)) (λ i. block u m q i d (a .does) (roots-in t (parts w l vs))))) (fa .0) (fa .1)
@@ -44,7 +44,7 @@ by-alt-suc q m u o h C ln g g2 d F T s w x v mm as₁ l (shape k vs) th la cv al
     (safe-weaken (λ d2 z. (d2 ≡ d) × After-exec q C ln (outer (mm .env) (ac .behind)) d (t2 .under) d2 z) P (block u m q (bd .k ++ d) d (fa .0 .does) t2)
     (λ d2 z a. subst (λ y. After-exec q C ln g2 d y d2 z) (bd .under ∙ lo .under) (after-weak q C ln (outer (mm .env) (ac .behind)) g2 d (t2 .under) d2 z (ac .weaker) (a .1)))
     (h .block-ok C ln (bd .gk) (mm .env) (ac .behind) (bd .k) d (bd .F) (bd .T) t2 (fa .0 .does) (subst (λ y. ch.stmts q y (fa .0 .does) ≡ some (ac .behind)) (bd .static) (ac .runs)) (bd .lens)
-    (record { names = subst (λ y. Match (length C) ln y (bd .k ++ d) (bd .F)) (bd .static) (bd .names); above = λ y i. absurd i; under = sc .under }) (bd .world)))))
+    (record { names = subst (λ y. Scope (length C) ln y (bd .k ++ d) (bd .F)) (bd .static) (bd .names); above = λ y i. absurd i; under = sc .under }) (bd .world)))))
   where
     P : me.Env → State → Type 0
     P = After-exec q C ln g2 d (s .under)
@@ -56,7 +56,7 @@ by-alt-suc q m u o h C ln g g2 d F T s w x v mm as₁ l (shape k vs) th la cv al
     fa = found-alt as₁ k (covered (mm .data1) (alt-names as₁) k (lo .ctor1) cv (lo .is-ctor))
 
     ac : Alt-found q (mm .env) w (mm .loans) (mm .data1) k (fa .0 .names) (fa .0 .does) g2
-    ac = alt-found q (mm .env) w (mm .loans) (mm .data1) as₁ k (fa .0) g2 (like-distinct g (mm .env) (looks-like q g v w (v .ty) mm la) (match-distinct (length C) ln g d F (sc .names))) al (fa .1)
+    ac = alt-found q (mm .env) w (mm .loans) (mm .data1) as₁ k (fa .0) g2 (like-distinct g (mm .env) (looks-like q g v w (v .ty) mm la) (scope-distinct (length C) ln g d F (sc .names))) al (fa .1)
 
     bd : Bound (q .datas) C ln (mm .env) (ac .inner) d (fa .0 .names) (parts w l vs) (lo .t)
     bd = lo .binds (fa .0 .names) (ac .inner) (subst (λ y. bind-all w (mm .loans) (mm .env) (fa .0 .names) (y .fields) ≡ some (ac .inner)) (same-ctor (ac .ctor1) (lo .ctor1) (ch.ctor-named (mm .data1 .ctors) k) (ac .named) (lo .is-ctor)) (ac .binds))
@@ -64,7 +64,7 @@ by-alt-suc q m u o h C ln g g2 d F T s w x v mm as₁ l (shape k vs) th la cv al
     t2 : State
     t2 = roots-in (lo .t) (parts w l vs)
 
-pub by-shape-suc : (q : Prog) (m : Limits) (u : ℕ) → ch.accepts q ≡ true → All q m u → By-shape-ok q m (suc u)
+pub by-shape-suc : (q : Prog) (m : Limits) (u : ℕ) → ch.accepts q ≡ true → Preserved q m u → By-shape-ok q m (suc u)
 unfolding me.eval
 by-shape-suc q m u o h C ln g d F T s qs t w x v mm as₁ l (shape k vs) th la cv al lp lk sc wo =
     safe-need P s (find-arm as₁ k) (λ a. me.need s (taken w s l) (λ z. me.need z (names-in d z (a .names) (parts w l vs)) (λ i. bodies u m q i d (a .does) (roots-in z (parts w l vs))))) (ca .found) (ca .is)
@@ -89,72 +89,72 @@ by-shape-suc q m u o h C ln g d F T s qs t w x v mm as₁ l (shape k vs) th la c
     t2 : State
     t2 = roots-in (lo .t) (parts w l vs)
 
-    lk2 : Like g (mm .env)
+    lk2 : Env-like g (mm .env)
     lk2 = looks-like q g v w (v .ty) mm la
 
     bg : (K : ch.Env) × (ca .bound ≡ K ++ mm .env) × Distinct (ca .bound)
-    bg = bind-grows w (mm .loans) (mm .env) (ca .found .names) (ca .ctor1 .fields) (ca .bound) (like-distinct g (mm .env) lk2 (match-distinct (length C) ln g d F (sc .names))) (ca .binds)
+    bg = bind-grows w (mm .loans) (mm .env) (ca .found .names) (ca .ctor1 .fields) (ca .bound) (like-distinct g (mm .env) lk2 (scope-distinct (length C) ln g d F (sc .names))) (ca .binds)
 
-    lent2 : Lent-pars qs (ca .bound)
+    lent2 : Ref-params qs (ca .bound)
     lent2 = grows-lent qs g (ca .bound) (record { newer = bg .0; older = mm .env; is = bg .1; like = lk2; distinct = bg .2 }) lp
 
 -- what a rule lets be looked at: data, by its owner or by a reference
-aims : (q : Prog) (g : ch.Env) (v : Var) (mm : Matched) (z : Sh) (w : Access) (ty : Ty) → Suits ty z → looks-at q g v w ty ≡ some mm → (D : Lexeme) × ((z ≡ own (dat D)) ⊎ ((al : Bool) × (a : Addr) × (ls : List Ln) × (z ≡ pts al (dat D) a ls)))
+aims : (q : Prog) (g : ch.Env) (v : Var) (mm : Matched) (z : Kind) (w : Access) (ty : Ty) → Kind-fits ty z → looks-at q g v w ty ≡ some mm → (D : Lexeme) × ((z ≡ own (dat D)) ⊎ ((al : Bool) × (a : Addr) × (ls : List Level-loan) × (z ≡ borrow al (dat D) a ls)))
 aims q g v mm z take int su h = absurd (no-some h)
-aims q g v mm z take (dat D) su h = (D, inl (suits-dat D z su))
+aims q g v mm z take (dat D) su h = (D, inl (fits-dat D z su))
 aims q g v mm z take (box t) su h = absurd (no-some h)
 aims q g v mm z take (ref t) su h = absurd (no-some h)
 aims q g v mm z take (mut t) su h = absurd (no-some h)
 aims q g v mm z view int su h = absurd (no-some h)
-aims q g v mm z view (dat D) su h = (D, inl (suits-dat D z su))
+aims q g v mm z view (dat D) su h = (D, inl (fits-dat D z su))
 aims q g v mm z view (box t) su h = absurd (no-some h)
 aims q g v mm z view (ref t) su h =
     let m = matched-is (data-of q t) (v .loans) g mm (only-is (readable (all-loans g) (v .name)) (matched (data-of q t) (v .loans) g) mm h .1) in
     let D = data-of-is q t (mm .data1) (m .0) in
-    let y = suits-ref t z su in
-    (D .0, inr (false, y .0, y .1, y .2 ∙ ap (λ r. pts false r (y .0) (y .1)) (D .1)))
+    let y = fits-ref t z su in
+    (D .0, inr (false, y .0, y .1, y .2 ∙ ap (λ r. borrow false r (y .0) (y .1)) (D .1)))
 aims q g v mm z view (mut t) su h =
     let m = matched-is (data-of q t) (loan (v .name) false ∷ []) g mm (only-is (readable (all-loans g) (v .name)) (matched (data-of q t) (loan (v .name) false ∷ []) g) mm h .1) in
     let D = data-of-is q t (mm .data1) (m .0) in
-    let y = suits-mut t z su in
-    (D .0, inr (true, y .0, y .1, y .2 ∙ ap (λ r. pts true r (y .0) (y .1)) (D .1)))
+    let y = fits-mut t z su in
+    (D .0, inr (true, y .0, y .1, y .2 ∙ ap (λ r. borrow true r (y .0) (y .1)) (D .1)))
 aims q g v mm z edit int su h = absurd (no-some h)
-aims q g v mm z edit (dat D) su h = (D, inl (suits-dat D z su))
+aims q g v mm z edit (dat D) su h = (D, inl (fits-dat D z su))
 aims q g v mm z edit (box t) su h = absurd (no-some h)
 aims q g v mm z edit (ref t) su h = absurd (no-some h)
 aims q g v mm z edit (mut t) su h =
     let m = matched-is (data-of q t) (loan (v .name) true ∷ []) g mm (only-is (is-free (all-loans g) (v .name)) (matched (data-of q t) (loan (v .name) true ∷ []) g) mm h .1) in
     let D = data-of-is q t (mm .data1) (m .0) in
-    let y = suits-mut t z su in
-    (D .0, inr (true, y .0, y .1, y .2 ∙ ap (λ r. pts true r (y .0) (y .1)) (D .1)))
+    let y = fits-mut t z su in
+    (D .0, inr (true, y .0, y .1, y .2 ∙ ap (λ r. borrow true r (y .0) (y .1)) (D .1)))
 
 -- the run finds what's looked at
-abbrev pub Sighted : me.Env → Lexeme → State → Type 0
-Sighted d x s = (r : ℕ) × (v : Value) × (y : Shape) × Looking d x (place-of r v) y s × (root-of d x ≡ some r) × (read-at s (here r) ≡ some v)
+abbrev pub Scrutinee-seen : me.Env → Lexeme → State → Type 0
+Scrutinee-seen d x s = (r : ℕ) × (v : Value) × (y : Shape) × Scrutinee d x (place-of r v) y s × (root-of d x ≡ some r) × (read-at s (here r) ≡ some v)
 
-con-seen : (ds : List Data) (d : me.Env) (x : Lexeme) (s : State) (r : ℕ) (v : Value) (part : Tr) (D : Lexeme) → Typed ds part (dat D) → root-of d x ≡ some r → read-at s (here r) ≡ some v → read-at s (place-of r v) ≡ some (flat part) → Sighted d x s
-con-seen ds d x s r v (num j) D ty nm rd se = absurd ty
-con-seen ds d x s r v (con k ts) D ty nm rd se = (r, v, shape k (flats ts), record { root = r; val = v; seen = con-v k (flats ts); named = nm; reads = rd; place = refl; sees = se; shaped = refl }, nm, rd)
-con-seen ds d x s r v (bx i w t) D ty nm rd se = absurd ty
-con-seen ds d x s r v void D ty nm rd se = absurd ty
+con-seen : (ds : List Data) (d : me.Env) (x : Lexeme) (s : State) (r : ℕ) (v : Value) (part : Tree) (D : Lexeme) → Typed ds part (dat D) → root-of d x ≡ some r → read-at s (here r) ≡ some v → read-at s (place-of r v) ≡ some (flat part) → Scrutinee-seen d x s
+con-seen ds d x s r v (int-t j) D ty nm rd se = absurd ty
+con-seen ds d x s r v (con-t k ts) D ty nm rd se = (r, v, shape k (flats ts), record { root = r; val = v; seen = con-v k (flats ts); named = nm; reads = rd; place = refl; sees = se; shaped = refl }, nm, rd)
+con-seen ds d x s r v (box-t i w t) D ty nm rd se = absurd ty
+con-seen ds d x s r v hole-t D ty nm rd se = absurd ty
 
-pub sighted : (q : Prog) (C : List En) (ln : List Ln) (g : ch.Env) (d : me.Env) (F : List En) (T : List Tr) (s : State) (w : Access) (x : Lexeme) (v : Var) (mm : Matched) → ch.there g x ≡ some v → looks-at q g v w (v .ty) ≡ some mm → Scene C ln [] g d [] F → World (q .datas) (F ++ C) T s → Sighted d x s
-sighted q C ln g d F T s w x v mm th la sc wo = go (aims q g v mm (pl .en .sh) w (v .ty) (pl .type) la)
+pub scrutinee-seen : (q : Prog) (C : List Entry) (ln : List Level-loan) (g : ch.Env) (d : me.Env) (F : List Entry) (T : List Tree) (s : State) (w : Access) (x : Lexeme) (v : Var) (mm : Matched) → ch.there g x ≡ some v → looks-at q g v w (v .ty) ≡ some mm → Frame C ln [] g d [] F → Invariant (q .datas) (F ++ C) T s → Scrutinee-seen d x s
+scrutinee-seen q C ln g d F T s w x v mm th la sc wo = go (aims q g v mm (pl .en .kind) w (v .ty) (pl .type) la)
   where
     it : (look g x ≡ some v) × (v .gone ≡ false)
     it = there-is g x v th
 
-    pl : Placed (q .datas) C ln g d [] F T s x v
-    pl = placed-at (q .datas) C ln [] g d [] F T s x v sc wo (it .0)
+    pl : Name-at (q .datas) C ln g d [] F T s x v
+    pl = name-at (q .datas) C ln [] g d [] F T s x v sc wo (it .0)
 
-    fine-as : (z : Sh) → pl .en .sh ≡ z → Fine1 (q .datas) (s .roots) (rooted (pl .root) 0) (v .gone) z (pl .stands .tree) (F ++ C) T
-    fine-as z e = subst (λ y. Fine1 (q .datas) (s .roots) (rooted (pl .root) 0) (v .gone) y (pl .stands .tree) (F ++ C) T) e (pl .fine2)
+    fine-as : (z : Kind) → pl .en .kind ≡ z → Entry-ok (q .datas) (s .roots) (rooted (pl .root) 0) (v .gone) z (pl .stands .tree) (F ++ C) T
+    fine-as z e = subst (λ y. Entry-ok (q .datas) (s .roots) (rooted (pl .root) 0) (v .gone) y (pl .stands .tree) (F ++ C) T) e (pl .fine2)
 
     whole1 : (D : Lexeme) → Content (q .datas) (v .gone) (dat D) (pl .stands .tree) → Typed (q .datas) (pl .stands .tree) (dat D)
     whole1 D (inl y) = y
     whole1 D (inr y) = absurd (true-false (sym (y .0) ∙ it .1))
 
-    go : (D : Lexeme) × ((pl .en .sh ≡ own (dat D)) ⊎ ((al : Bool) × (a : Addr) × (ls : List Ln) × (pl .en .sh ≡ pts al (dat D) a ls))) → Sighted d x s
+    go : (D : Lexeme) × ((pl .en .kind ≡ own (dat D)) ⊎ ((al : Bool) × (a : Addr) × (ls : List Level-loan) × (pl .en .kind ≡ borrow al (dat D) a ls))) → Scrutinee-seen d x s
     go (D, inl e) =
         let f = fine-as (own (dat D)) e in
         let ty = whole1 D (f .3) in
@@ -162,14 +162,14 @@ sighted q C ln g d F T s w x v mm th la sc wo = go (aims q g v mm (pl .en .sh) w
         con-seen (q .datas) d x s (pl .root) (flat (pl .stands .tree)) (pl .stands .tree) D ty (pl .named) rd (ap (read-at s) (place-con (q .datas) (pl .root) (pl .stands .tree) D ty) ∙ rd)
     go (D, inr y) =
         let e = y .3 in
-        let f = fine-as (pts (y .0) (dat D) (y .1) (y .2)) e in
-        let pt : Points (q .datas) (F ++ C) T (dat D) (y .1) (f .1 .0) = f .1 .2 in
-        let hm = homed-up (shapes (F ++ C)) (wo .sane .homed) (pl .level) (y .0) (dat D) (y .1) (y .2) (pl .at-sh ∙ ap {B = Option Sh} (λ r. some r) e) in
+        let f = fine-as (borrow (y .0) (dat D) (y .1) (y .2)) e in
+        let pt : Valid-ref (q .datas) (F ++ C) T (dat D) (y .1) (f .1 .0) = f .1 .2 in
+        let hm = anchored-at (kinds (F ++ C)) (wo .borrows .anchored) (pl .level) (y .0) (dat D) (y .1) (y .2) (pl .at-sh ∙ ap {B = Option Kind} (λ r. some r) e) in
         con-seen (q .datas) d x s (pl .root) (f .1 .0) (pt .part) D (pt .typed) (pl .named) (reads s (pl .root) (f .1 .0) 0 (f .1 .1))
-        (ap (λ r. read-at s (place-of (pl .root) r)) (pt .value) ∙ points-read (q .datas) (F ++ C) T s (dat D) (hm .2 .0) (y .1) (f .1 .0) wo (hm .2 .1) pt .0)
+        (ap (λ r. read-at s (place-of (pl .root) r)) (pt .value) ∙ valid-ref-read (q .datas) (F ++ C) T s (dat D) (hm .2 .0) (y .1) (f .1 .0) wo (hm .2 .1) pt .0)
 
 -- the case match of exec
-pub match-step : (q : Prog) (m : Limits) (u : ℕ) → All q m u → (C : List En) (ln : List Ln) (g g2 : ch.Env) (d : me.Env) (F : List En) (T : List Tr) (s : State) (w : Access) (x : Lexeme) (as₁ : Alts) → ch.stmt q g (match-s w x as₁) ≡ some g2 → Scene C ln [] g d [] F → World (q .datas) (F ++ C) T s → Safe (After-exec q C ln g2 d (s .under)) (exec (suc u) m q d (match-s w x as₁) s)
+pub match-step : (q : Prog) (m : Limits) (u : ℕ) → Preserved q m u → (C : List Entry) (ln : List Level-loan) (g g2 : ch.Env) (d : me.Env) (F : List Entry) (T : List Tree) (s : State) (w : Access) (x : Lexeme) (as₁ : Alts) → ch.stmt q g (match-s w x as₁) ≡ some g2 → Frame C ln [] g d [] F → Invariant (q .datas) (F ++ C) T s → Safe (After-exec q C ln g2 d (s .under)) (exec (suc u) m q d (match-s w x as₁) s)
 unfolding me.eval
 match-step q m u h C ln g g2 d F T s w x as₁ e sc wo =
     let y = if-some-is (ch.there g x) (λ v. if-some (looks-at q g v w (v .ty)) (λ mm. only-if (covers (mm .data1) (alt-names as₁)) (ch.alts q (mm .env) w (mm .loans) (mm .data1) as₁))) g2 e in
@@ -177,7 +177,7 @@ match-step q m u h C ln g g2 d F T s w x as₁ e sc wo =
     let z = if-some-is (looks-at q g v w (v .ty)) (λ mm. only-if (covers (mm .data1) (alt-names as₁)) (ch.alts q (mm .env) w (mm .loans) (mm .data1) as₁)) g2 (y .2) in
     let mm = z .0 in
     let r = only-is (covers (mm .data1) (alt-names as₁)) (ch.alts q (mm .env) w (mm .loans) (mm .data1) as₁) g2 (z .2) in
-    let si = sighted q C ln g d F T s w x v mm (y .1) (z .1) sc wo in
+    let si = scrutinee-seen q C ln g d F T s w x v mm (y .1) (z .1) sc wo in
     let lk = si .3 in
     let P : me.Env → State → Type 0 = After-exec q C ln g2 d (s .under) in
     let l = place-of (si .0) (si .1) in
@@ -188,7 +188,7 @@ match-step q m u h C ln g g2 d F T s w x as₁ e sc wo =
     (h .by-alt-ok C ln g g2 d F T s w x v mm as₁ l (si .2) (y .1) (z .1) (r .0) (r .1) lk sc wo))))
 
 -- the case match of tails
-pub give-match-step : (q : Prog) (m : Limits) (u : ℕ) → All q m u → (C : List En) (ln : List Ln) (g : ch.Env) (d : me.Env) (F : List En) (T : List Tr) (s : State) (qs : List Lexeme) (t : Ty) (w : Access) (x : Lexeme) (as₁ : Arms) → ch.is-tail q qs t g (give-match w x as₁) ≡ true → Lent-pars qs g → Scene C ln [] g d [] F → World (q .datas) (F ++ C) T s → Safe (After-give q C ln d t (s .under)) (tails (suc u) m q d (give-match w x as₁) s)
+pub give-match-step : (q : Prog) (m : Limits) (u : ℕ) → Preserved q m u → (C : List Entry) (ln : List Level-loan) (g : ch.Env) (d : me.Env) (F : List Entry) (T : List Tree) (s : State) (qs : List Lexeme) (t : Ty) (w : Access) (x : Lexeme) (as₁ : Arms) → ch.is-tail q qs t g (give-match w x as₁) ≡ true → Ref-params qs g → Frame C ln [] g d [] F → Invariant (q .datas) (F ++ C) T s → Safe (After-give q C ln d t (s .under)) (tails (suc u) m q d (give-match w x as₁) s)
 unfolding me.eval
 give-match-step q m u h C ln g d F T s qs t w x as₁ e lp sc wo =
     let y = from-is (ch.there g x) (λ v. from-option (looks-at q g v w (v .ty)) false (λ mm. covers (mm .data1) (arm-names as₁) && ch.are-arms q qs t (mm .env) w (mm .loans) (mm .data1) as₁)) e in
@@ -197,7 +197,7 @@ give-match-step q m u h C ln g d F T s qs t w x as₁ e lp sc wo =
     let mm = z .0 in
     let r0 = and-left (covers (mm .data1) (arm-names as₁)) (ch.are-arms q qs t (mm .env) w (mm .loans) (mm .data1) as₁) (z .2) in
     let r1 = and-right (covers (mm .data1) (arm-names as₁)) (ch.are-arms q qs t (mm .env) w (mm .loans) (mm .data1) as₁) (z .2) in
-    let si = sighted q C ln g d F T s w x v mm (y .1) (z .1) sc wo in
+    let si = scrutinee-seen q C ln g d F T s w x v mm (y .1) (z .1) sc wo in
     let lk = si .3 in
     let P : Value → State → Type 0 = After-give q C ln d t (s .under) in
     let l = place-of (si .0) (si .1) in

@@ -1,5 +1,5 @@
 use Rattle.soundness.proofs.never_wrong.Needs as need
-use Rattle.soundness.proofs.Whole.{never-wrong}
+use Rattle.soundness.proofs.Theorems.{never-wrong}
 
 pub returns : need.returns
 returns c = never-wrong

@@ -8,39 +8,39 @@ use Rattle.language.specs.Base.{choose, from-option, Lexeme, same, only-if, pre
 use Rattle.language.specs.Syntax.{Ty, int, dat, box, ref, mut, Access, Data, Prog, take, view, edit}
 use Rattle.language.specs.Checks.{Loan, Var, Matched, loan, Env, look, fresh, set-gone, enter, is-free, readable, all-loans, outer, both, no-more-gone, bind-all, ref-of, looks-at, matched, data-of, data-named}
 use Rattle.language.specs.Meaning as me
-use Rattle.soundness.specs.Borrows.{Ln}
-use Rattle.soundness.specs.Invariant.{En}
-use Rattle.soundness.specs.Frames.{Match, Lent-pars}
+use Rattle.soundness.specs.Borrows.{Level-loan}
+use Rattle.soundness.specs.Invariant.{Entry}
+use Rattle.soundness.specs.Frames.{Scope, Ref-params}
 use Rattle.soundness.proofs.Basics.{no-some, some-is, only-is, true-false, or-left, or-right, and-left, and-right, same-is, same-self}
-use Rattle.soundness.proofs.world.Flags.{Weaker}
-use Rattle.soundness.proofs.statics.Likes.{Like, like-self, like-then, like-gone, fresh-like}
-use Rattle.soundness.proofs.statics.Given.{lent-like}
+use Rattle.soundness.proofs.invariant.Flags.{Weaker}
+use Rattle.soundness.proofs.statics.Exprs.{Env-like, like-self, like-then, like-gone, fresh-like}
+use Rattle.soundness.proofs.statics.FromCaller.{lent-like}
 
 -- no name twice
 abbrev pub Distinct : Env → Type 0
 Distinct [] = Unit {0}
 Distinct (v ∷ g) = (look g (v .name) ≡ none) × Distinct g
 
-pub match-distinct : (base : ℕ) (ln : List Ln) (g : Env) (d : me.Env) (F : List En) → Match base ln g d F → Distinct g
-match-distinct base ln [] d F m = tt
-match-distinct base ln (v ∷ g) [] F m = absurd m
-match-distinct base ln (v ∷ g) (i ∷ d) [] m = absurd m
-match-distinct base ln (v ∷ g) (i ∷ d) (e ∷ F) m = (m .0 .fresh, match-distinct base ln g d F (m .1))
+pub scope-distinct : (base : ℕ) (ln : List Level-loan) (g : Env) (d : me.Env) (F : List Entry) → Scope base ln g d F → Distinct g
+scope-distinct base ln [] d F m = tt
+scope-distinct base ln (v ∷ g) [] F m = absurd m
+scope-distinct base ln (v ∷ g) (i ∷ d) [] m = absurd m
+scope-distinct base ln (v ∷ g) (i ∷ d) (e ∷ F) m = (m .0 .fresh, scope-distinct base ln g d F (m .1))
 
-pub like-distinct : (g h : Env) → Like g h → Distinct g → Distinct h
+pub like-distinct : (g h : Env) → Env-like g h → Distinct g → Distinct h
 like-distinct [] [] k u = tt
 like-distinct [] (w ∷ h) k u = absurd k
 like-distinct (v ∷ g) [] k u = absurd k
 like-distinct (v ∷ g) (w ∷ h) k u = (subst (λ z. look h z ≡ none) (k .0) (fresh-like g h (v .name) (k .3) (u .0)), like-distinct g h (k .3) (u .1))
 
-pub like-sym : (g h : Env) → Like g h → Like h g
+pub like-sym : (g h : Env) → Env-like g h → Env-like h g
 like-sym [] [] k = tt
 like-sym [] (w ∷ h) k = absurd k
 like-sym (v ∷ g) [] k = absurd k
 like-sym (v ∷ g) (w ∷ h) k = (sym (k .0), sym (k .1), sym (k .2), like-sym g h (k .3))
 
 -- Like of the part below
-pub like-split : (K g h : Env) → Like (K ++ g) h → (K2 : Env) × (g2 : Env) × (h ≡ K2 ++ g2) × Like K K2 × Like g g2
+pub like-split : (K g h : Env) → Env-like (K ++ g) h → (K2 : Env) × (g2 : Env) × (h ≡ K2 ++ g2) × Env-like K K2 × Env-like g g2
 like-split [] g h k = ([], h, refl, tt, k)
 like-split (v ∷ K) g [] k = absurd k
 like-split (v ∷ K) g (w ∷ h) k = let r = like-split K g h (k .3) in (w ∷ r .0, r .1, ap (λ z. w ∷ z) (r .2), (k .0, k .1, k .2, r .3), r .4)
@@ -74,13 +74,13 @@ seen-up [] g u = seen-self g u
 seen-up (v ∷ K) g u = seen-push v g (K ++ g) (u .0) (seen-up K g (u .1))
 
 -- outer gives the older names as they are now
-pub outer-is : (g g2 h : Env) → Like g g2 → Looks-same g2 h → outer g h ≡ g2
+pub outer-is : (g g2 h : Env) → Env-like g g2 → Looks-same g2 h → outer g h ≡ g2
 outer-is [] [] h k s = refl
 outer-is [] (w ∷ g2) h k s = absurd k
 outer-is (v ∷ g) [] h k s = absurd k
 outer-is (v ∷ g) (w ∷ g2) h k s = ap (λ z. from-option z v (λ y. y) ∷ outer g h) (ap (look h) (k .0) ∙ s .0) ∙ ap (λ z. w ∷ z) (outer-is g g2 h (k .3) (s .1))
 
-pub both-like : (g h : Env) → Like g (both g h)
+pub both-like : (g h : Env) → Env-like g (both g h)
 both-like [] h = tt
 both-like (v ∷ g) h = (refl, refl, refl, both-like g h)
 
@@ -88,16 +88,16 @@ pub both-left : (g h : Env) → Weaker g (both g h)
 both-left [] h = tt
 both-left (v ∷ g) h = (refl, refl, refl, or-left (v .gone) (from-option (look h (v .name)) false (λ w. w .gone)), both-left g h)
 
-both-seen : (g g2 h : Env) → Like g g2 → Looks-same g2 h → Weaker g2 (both g h)
+both-seen : (g g2 h : Env) → Env-like g g2 → Looks-same g2 h → Weaker g2 (both g h)
 both-seen [] [] h k s = tt
 both-seen [] (w ∷ g2) h k s = absurd k
 both-seen (v ∷ g) [] h k s = absurd k
 both-seen (v ∷ g) (w ∷ g2) h k s = (sym (k .0), sym (k .1), sym (k .2), (λ e. or-right (v .gone) (from-option (look h (v .name)) false (λ y. y .gone)) (ap (λ z. from-option (look h z) false (λ y. y .gone)) (k .0) ∙ ap (λ z. from-option z false (λ y. y .gone)) (s .0) ∙ e)), both-seen g g2 h (k .3) (s .1))
 
-pub both-right : (g h : Env) → Like g h → Distinct h → Weaker h (both g h)
+pub both-right : (g h : Env) → Env-like g h → Distinct h → Weaker h (both g h)
 both-right g h k u = both-seen g h h k (seen-self h u)
 
-less-seen : (g g2 h : Env) → Like g g2 → Looks-same g2 h → no-more-gone g h ≡ true → Weaker g2 g
+less-seen : (g g2 h : Env) → Env-like g g2 → Looks-same g2 h → no-more-gone g h ≡ true → Weaker g2 g
 less-seen [] [] h k s e = tt
 less-seen [] (w ∷ g2) h k s e = absurd k
 less-seen (v ∷ g) [] h k s e = absurd k
@@ -115,7 +115,7 @@ less-seen (v ∷ g) (w ∷ g2) h k s e = (
     go false false e1 e2 = e1
 
 -- nothing is gone in h that wasn't in g
-pub not-more-gone : (g h : Env) → Like g h → Distinct h → no-more-gone g h ≡ true → Weaker h g
+pub not-more-gone : (g h : Env) → Env-like g h → Distinct h → no-more-gone g h ≡ true → Weaker h g
 not-more-gone g h k u e = less-seen g h h k (seen-self h u) e
 
 -- newer names on top of the older ones
@@ -123,15 +123,15 @@ pub record Grows (g h : Env) : Type 0 where
   pub newer : Env
   pub older : Env
   pub is : h ≡ newer ++ older
-  pub like : Like g older
+  pub like : Env-like g older
   pub distinct : Distinct h
 
-pub grows-like : (g h : Env) → Distinct g → Like g h → Grows g h
+pub grows-like : (g h : Env) → Distinct g → Env-like g h → Grows g h
 grows-like g h u k = record { newer = []; older = h; is = refl; like = k; distinct = like-distinct g h k u }
 
 pub grows-then : (f g h : Env) → Grows f g → Grows g h → Grows f h
 grows-then f g h a z =
-    let r = like-split (a .newer) (a .older) (z .older) (subst (λ y. Like y (z .older)) (a .is) (z .like)) in
+    let r = like-split (a .newer) (a .older) (z .older) (subst (λ y. Env-like y (z .older)) (a .is) (z .like)) in
     record { newer = z .newer ++ r .0; older = r .1; is = z .is ∙ ap (λ y. z .newer ++ y) (r .2) ∙ sym (append-assoc (z .newer) (r .0) (r .1)); like = like-then f (a .older) (r .1) (a .like) (r .4); distinct = z .distinct }
 
 pub fresh-none : (g : Env) (x : Lexeme) → fresh g x ≡ true → look g x ≡ none
@@ -148,17 +148,17 @@ grows-enter g h x t ls a e = record { newer = record { name = x; ty = t; gone = 
 pub outer-grows : (g h : Env) (a : Grows g h) → outer g h ≡ a .older
 outer-grows g h a = outer-is g (a .older) h (a .like) (subst (Looks-same (a .older)) (sym (a .is)) (seen-up (a .newer) (a .older) (subst Distinct (a .is) (a .distinct))))
 
-pub outer-like : (g h : Env) → Grows g h → Like g (outer g h)
-outer-like g h a = subst (Like g) (sym (outer-grows g h a)) (a .like)
+pub outer-like : (g h : Env) → Grows g h → Env-like g (outer g h)
+outer-like g h a = subst (Env-like g) (sym (outer-grows g h a)) (a .like)
 
 -- .. of the lower part of the names
-pub outer-part : (gk gh h : Env) → Grows (gk ++ gh) h → (K : Env) × (g2 : Env) × (h ≡ K ++ g2) × Like gh g2 × (outer gh h ≡ g2)
+pub outer-part : (gk gh h : Env) → Grows (gk ++ gh) h → (K : Env) × (g2 : Env) × (h ≡ K ++ g2) × Env-like gh g2 × (outer gh h ≡ g2)
 outer-part gk gh h a =
     let r = like-split gk gh (a .older) (a .like) in
     let e : h ≡ (a .newer ++ r .0) ++ r .1 = a .is ∙ ap (λ y. a .newer ++ y) (r .2) ∙ sym (append-assoc (a .newer) (r .0) (r .1)) in
     (a .newer ++ r .0, r .1, e, r .4, outer-is gh (r .1) h (r .4) (subst (Looks-same (r .1)) (sym e) (seen-up (a .newer ++ r .0) (r .1) (subst Distinct e (a .distinct)))))
 
-pub grows-lent : (qs : List Lexeme) (g h : Env) → Grows g h → Lent-pars qs g → Lent-pars qs h
+pub grows-lent : (qs : List Lexeme) (g h : Env) → Grows g h → Ref-params qs g → Ref-params qs h
 grows-lent qs g h a lp x i =
     let r = lent-like qs g (a .older) (a .like) lp x i in
     (r .0, subst (λ z. look z x ≡ some (r .0)) (sym (a .is)) (look-up (a .newer) (a .older) x (r .0) (subst Distinct (a .is) (a .distinct)) (r .1)), r .2, r .3)
@@ -178,10 +178,10 @@ matched-env : (o : Option Data) (ls : List Loan) (g : Env) (mm : Matched) → ma
 matched-env none ls g mm e = absurd (no-some e)
 matched-env (some d) ls g mm e = ap (λ z. z .env) (some-is e)
 
-looked : (z : Bool) (o : Option Data) (ls : List Loan) (g h : Env) (mm : Matched) → Like g h → only-if z (matched o ls h) ≡ some mm → Like g (mm .env)
-looked z o ls g h mm k e = subst (Like g) (matched-env o ls h mm (only-is z (matched o ls h) mm e .1)) k
+looked : (z : Bool) (o : Option Data) (ls : List Loan) (g h : Env) (mm : Matched) → Env-like g h → only-if z (matched o ls h) ≡ some mm → Env-like g (mm .env)
+looked z o ls g h mm k e = subst (Env-like g) (matched-env o ls h mm (only-is z (matched o ls h) mm e .1)) k
 
-pub looks-like : (q : Prog) (g : Env) (v : Var) (w : Access) (t : Ty) (mm : Matched) → looks-at q g v w t ≡ some mm → Like g (mm .env)
+pub looks-like : (q : Prog) (g : Env) (v : Var) (w : Access) (t : Ty) (mm : Matched) → looks-at q g v w t ≡ some mm → Env-like g (mm .env)
 looks-like q g v take int mm e = absurd (no-some e)
 looks-like q g v take (dat d) mm e = looked (is-free (all-loans g) (v .name)) (data-named (q .datas) d) [] g (set-gone true g (v .name)) mm (like-gone true g (v .name)) e
 looks-like q g v take (box t) mm e = absurd (no-some e)

@@ -10,25 +10,25 @@ use Rattle.language.specs.Checks.{outer}
 use Rattle.language.specs.Checks as ch
 use Rattle.language.specs.Meaning.{State, Limits, execs, exec, ends, newer}
 use Rattle.language.specs.Meaning as me
-use Rattle.soundness.specs.Borrows.{Sh, own, pts, inert}
-use Rattle.soundness.specs.Invariant.{En, shapes, World}
-use Rattle.soundness.specs.Frames.{Match, No-refs}
-use Rattle.soundness.specs.Preserved.{Safe, After-exec, After-end, Execs-ok, Block-ok, All}
+use Rattle.soundness.specs.Borrows.{Kind, own, borrow, inert}
+use Rattle.soundness.specs.Invariant.{Entry, kinds, Invariant}
+use Rattle.soundness.specs.Frames.{Scope, No-borrows}
+use Rattle.soundness.specs.Preserved.{Safe, After-exec, After-end, Execs-ok, Block-ok, Preserved}
 use Rattle.soundness.proofs.Basics.{some-is, if-some-is}
-use Rattle.soundness.proofs.world.Ops.{world-same}
-use Rattle.soundness.proofs.statics.Likes.{Like, like-length}
-use Rattle.soundness.proofs.statics.Scopes.{match-distinct, outer-part}
-use Rattle.soundness.proofs.statics.Grows.{stmts-grows}
-use Rattle.soundness.proofs.frames.Parted.{newer-is, match-names, Parted, match-parted}
-use Rattle.soundness.proofs.Claims.{safe-then, safe-turn, safe-weaken}
+use Rattle.soundness.proofs.invariant.Top.{invariant-same}
+use Rattle.soundness.proofs.statics.Exprs.{Env-like, like-length}
+use Rattle.soundness.proofs.statics.Scopes.{scope-distinct, outer-part}
+use Rattle.soundness.proofs.statics.Stmts.{stmts-grows}
+use Rattle.soundness.proofs.frames.Parts.{newer-is, scope-names, Parted, scope-parted}
+use Rattle.soundness.proofs.Safety.{safe-then, safe-turn, safe-weaken}
 
-pub no-refs-under : (F1 F2 : List En) → No-refs (shapes (F1 ++ F2)) → No-refs (shapes F2)
-no-refs-under [] F2 h = h
-no-refs-under (e ∷ F1) F2 h = no-refs-under F1 F2 (go (e .sh) h)
+pub no-borrows-under : (F1 F2 : List Entry) → No-borrows (kinds (F1 ++ F2)) → No-borrows (kinds F2)
+no-borrows-under [] F2 h = h
+no-borrows-under (e ∷ F1) F2 h = no-borrows-under F1 F2 (go (e .kind) h)
   where
-    go : (s : Sh) → No-refs (s ∷ shapes (F1 ++ F2)) → No-refs (shapes (F1 ++ F2))
+    go : (s : Kind) → No-borrows (s ∷ kinds (F1 ++ F2)) → No-borrows (kinds (F1 ++ F2))
     go (own t) k = k
-    go (pts al t a ls) k = absurd k
+    go (borrow al t a ls) k = absurd k
     go inert k = k
 
 suffix-is : (K g K2 g2 : ch.Env) → K ++ g ≡ K2 ++ g2 → length g ≡ length g2 → g ≡ g2
@@ -37,7 +37,7 @@ suffix-is [] g (y ∷ K2) g2 e l = absurd (let a : length g ≡ suc (length (K2 
 suffix-is (x ∷ K) g [] g2 e l = absurd (let a : suc (length (K ++ g)) ≡ length g2 = ap length e in let a2 = length-append K g in omega arith)
 suffix-is (x ∷ K) g (y ∷ K2) g2 e l = let t : K ++ g ≡ K2 ++ g2 = cc in suffix-is K g K2 g2 t l
 
-pub block-suc : (q : Prog) (m : Limits) (u : ℕ) → ch.accepts q ≡ true → All q m u → Block-ok q m (suc u)
+pub block-suc : (q : Prog) (m : Limits) (u : ℕ) → ch.accepts q ≡ true → Preserved q m u → Block-ok q m (suc u)
 unfolding me.eval
 block-suc q m u o hyp C ln gk gh g2 k h F T s x e le sc w =
     safe-then (After-exec q C ln g2 (k ++ h) (s .under)) Post (execs u m q (k ++ h) x s) (λ i t. me.then (ends u m q (newer i h) t) (λ j z. me.ok h z))
@@ -49,8 +49,8 @@ block-suc q m u o hyp C ln gk gh g2 k h F T s x e le sc w =
     behind : (i : me.Env) (t : State) → After-exec q C ln g2 (k ++ h) (s .under) i t → Safe Post (me.then (ends u m q (newer i h) t) (λ j z. me.ok h z))
     behind i t a = subst (λ z. Safe Post (me.then (ends u m q z t) (λ j y. me.ok h y))) (sym new-is)
         (safe-then (λ j z. After-end q (pa .F2 ++ C) (t .under) z) Post (ends u m q (a .newer ++ k) t) (λ j z. me.ok h z)
-        (hyp .ends-ok (pa .F1) (pa .F2 ++ C) (a .T) t (a .newer ++ k) (pa .named) (subst (λ z. World (q .datas) z (a .T) t) (ap (λ z. z ++ C) (pa .F-is) ∙ append-assoc (pa .F1) (pa .F2) C) (a .world)))
-        (λ j z b. (refl, record { newer = []; grown = refl; F = pa .F2; T = b .T; names = subst (λ y. Match (length C) ln y h (pa .F2)) (low ∙ sym (op .4)) (pa .names); world = b .world; under = b .under ∙ a .under })))
+        (hyp .ends-ok (pa .F1) (pa .F2 ++ C) (a .T) t (a .newer ++ k) (pa .named) (subst (λ z. Invariant (q .datas) z (a .T) t) (ap (λ z. z ++ C) (pa .F-is) ∙ append-assoc (pa .F1) (pa .F2) C) (a .world)))
+        (λ j z b. (refl, record { newer = []; grown = refl; F = pa .F2; T = b .T; names = subst (λ y. Scope (length C) ln y h (pa .F2)) (low ∙ sym (op .4)) (pa .names); world = b .world; under = b .under ∙ a .under })))
       where
         i-is : i ≡ (a .newer ++ k) ++ h
         i-is = a .grown ∙ sym (append-assoc (a .newer) k h)
@@ -59,23 +59,23 @@ block-suc q m u o hyp C ln gk gh g2 k h F T s x e le sc w =
         new-is = ap (λ z. newer z h) i-is ∙ newer-is (a .newer ++ k) h
 
         pa : Parted (length C) ln g2 (a .newer ++ k) h (a .F)
-        pa = match-parted (length C) ln g2 (a .newer ++ k) h (a .F) (subst (λ z. Match (length C) ln g2 z (a .F)) i-is (a .names))
+        pa = scope-parted (length C) ln g2 (a .newer ++ k) h (a .F) (subst (λ z. Scope (length C) ln g2 z (a .F)) i-is (a .names))
 
-        op : (K : ch.Env) × (gl : ch.Env) × (g2 ≡ K ++ gl) × Like gh gl × (outer gh g2 ≡ gl)
-        op = outer-part gk gh g2 (stmts-grows q (gk ++ gh) x g2 (match-distinct (length C) ln (gk ++ gh) (k ++ h) F (sc .names)) e)
+        op : (K : ch.Env) × (gl : ch.Env) × (g2 ≡ K ++ gl) × Env-like gh gl × (outer gh g2 ≡ gl)
+        op = outer-part gk gh g2 (stmts-grows q (gk ++ gh) x g2 (scope-distinct (length C) ln (gk ++ gh) (k ++ h) F (sc .names)) e)
 
         low : pa .g2 ≡ op .1
         low = suffix-is (pa .g1) (pa .g2) (op .0) (op .1) (sym (pa .g-is) ∙ op .2)
-            (let l1 = match-names (length C) ln (pa .g2) h (pa .F2) (pa .names) in let l2 = like-length gh (op .1) (op .3) in let l3 = match-names (length C) ln (gk ++ gh) (k ++ h) F (sc .names) in let l4 = length-append gk gh in let l5 = length-append k h in omega arith)
+            (let l1 = scope-names (length C) ln (pa .g2) h (pa .F2) (pa .names) in let l2 = like-length gh (op .1) (op .3) in let l3 = scope-names (length C) ln (gk ++ gh) (k ++ h) F (sc .names) in let l4 = length-append gk gh in let l5 = length-append k h in omega arith)
 
-pub execs-suc : (q : Prog) (m : Limits) (u : ℕ) → ch.accepts q ≡ true → All q m u → Execs-ok q m (suc u)
+pub execs-suc : (q : Prog) (m : Limits) (u : ℕ) → ch.accepts q ≡ true → Preserved q m u → Execs-ok q m (suc u)
 unfolding me.eval
-execs-suc q m u o h C ln g g2 d F T s nil-s e sc w = record { newer = []; grown = refl; F = F; T = T; names = subst (λ z. Match (length C) ln z d F) (some-is e) (sc .names); world = w; under = refl }
+execs-suc q m u o h C ln g g2 d F T s nil-s e sc w = record { newer = []; grown = refl; F = F; T = T; names = subst (λ z. Scope (length C) ln z d F) (some-is e) (sc .names); world = w; under = refl }
 execs-suc q m u o h C ln g g2 d F T s (cons-s x ss) e sc w =
     let st = if-some-is (ch.stmt q g x) (λ k. ch.stmts q k ss) g2 e in
     let s1 : State = record { roots = s .roots; classes = s .classes; under = s .under; turns = suc (s .turns); ins = s .ins; outs = s .outs } in
     safe-then (After-exec q C ln (st .0) d (s .under)) (After-exec q C ln g2 d (s .under)) (me.turn m s (λ t. exec u m q d x t)) (λ k t. execs u m q k ss t)
-    (safe-turn (After-exec q C ln (st .0) d (s .under)) m s (λ t. exec u m q d x t) (h .exec-ok C ln g (st .0) d F T s1 x (st .1) sc (world-same (q .datas) (F ++ C) T s s1 refl refl w)))
+    (safe-turn (After-exec q C ln (st .0) d (s .under)) m s (λ t. exec u m q d x t) (h .exec-ok C ln g (st .0) d F T s1 x (st .1) sc (invariant-same (q .datas) (F ++ C) T s s1 refl refl w)))
     (λ d2 t a. safe-weaken (After-exec q C ln g2 d2 (t .under)) (After-exec q C ln g2 d (s .under)) (execs u m q d2 ss t)
     (λ d3 y b. record { newer = b .newer ++ a .newer; grown = b .grown ∙ ap (λ z. b .newer ++ z) (a .grown) ∙ sym (append-assoc (b .newer) (a .newer) d); F = b .F; T = b .T; names = b .names; world = b .world; under = b .under ∙ a .under })
     (h .execs-ok C ln (st .0) g2 d2 (a .F) (a .T) t ss (st .2) (record { names = a .names; above = λ l i. absurd i; under = sc .under }) (a .world)))

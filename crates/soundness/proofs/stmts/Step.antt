@@ -5,14 +5,14 @@ use Prim.Native.Nat.{ℕ, suc}
 use Rattle.language.specs.Syntax.{Prog, assign, store, bind, put-s, cond, loop, match-s, open-s, inside}
 use Rattle.language.specs.Checks as ch
 use Rattle.language.specs.Meaning.{Limits}
-use Rattle.soundness.specs.Preserved.{Exec-ok, All}
+use Rattle.soundness.specs.Preserved.{Exec-ok, Preserved}
 use Rattle.soundness.proofs.matches.Step.{match-step}
 use Rattle.soundness.proofs.stmts.Plain.{bind-step, show-step, cond-step, loop-step}
 use Rattle.soundness.proofs.stmts.Stores.{assign-step, store-step}
-use Rattle.soundness.proofs.stmts.Opens.{open-step}
-use Rattle.soundness.proofs.stmts.Insides.{inside-step}
+use Rattle.soundness.proofs.stmts.Open.{open-step}
+use Rattle.soundness.proofs.stmts.Inside.{inside-step}
 
-pub exec-suc : (q : Prog) (m : Limits) (u : ℕ) → ch.accepts q ≡ true → All q m u → Exec-ok q m (suc u)
+pub exec-suc : (q : Prog) (m : Limits) (u : ℕ) → ch.accepts q ≡ true → Preserved q m u → Exec-ok q m (suc u)
 exec-suc q m u o h C ln g g2 d F T s (bind x a) e sc w = bind-step q m u h C ln g g2 d F T s x a e sc w
 exec-suc q m u o h C ln g g2 d F T s (assign x a) e sc w = assign-step q m u h C ln g g2 d F T s x a e sc w
 exec-suc q m u o h C ln g g2 d F T s (store x a) e sc w = store-step q m u h C ln g g2 d F T s x a e sc w

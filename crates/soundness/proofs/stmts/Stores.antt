@@ -13,32 +13,32 @@ use Rattle.language.specs.Checks.{same-ty, owned, look, set-gone, is-free, all-
 use Rattle.language.specs.Checks as ch
 use Rattle.language.specs.Meaning.{Loc, Value, State, Limits, Res, here, root-of, read-at, eval, exec, drops, ref-v, write-at, loc-of}
 use Rattle.language.specs.Meaning as me
-use Rattle.soundness.specs.Trees.{Tr, num, con, bx, void, flat, Stored, Typed, fld, ins, Way-down, sub, repl, lies}
-use Rattle.soundness.specs.Borrows.{Addr, Ln, Sh, own, pts, inert, lev, Sane, Lent}
-use Rattle.soundness.specs.Invariant.{rooted, flying, En, shapes, Cell, Content, Points, Fine1, Fine, World}
-use Rattle.soundness.specs.Frames.{Suits, Match, Flight, Scene}
-use Rattle.soundness.specs.Preserved.{Safe, After-eval, After-exec, After-end, All}
+use Rattle.soundness.specs.Trees.{Tree, int-t, con-t, box-t, hole-t, flat, Stored, Typed, field-step, box-step, Path, subtree, replace, loc-down}
+use Rattle.soundness.specs.Borrows.{Addr, Level-loan, Kind, own, borrow, inert, at-level, Well-borrowed, Lent}
+use Rattle.soundness.specs.Invariant.{rooted, in-flight, Entry, kinds, Holds, Content, Valid-ref, Entry-ok, Entries-ok, Invariant}
+use Rattle.soundness.specs.Frames.{Kind-fits, Scope, Value-entry, Frame}
+use Rattle.soundness.specs.Preserved.{Safe, After-eval, After-exec, After-end, Preserved}
 use Rattle.soundness.proofs.Basics.{no-some, some-is, if-some-is, only-is, true-false, and-left, and-right}
-use Rattle.soundness.proofs.memory.Typing.{typed-repl, sub-repl}
-use Rattle.soundness.proofs.loans.Stack.{spared, off-top}
-use Rattle.soundness.proofs.world.Levels.{homed-under, entry-back, lev-shapes, fine-mid, fine-length, Stands, fine-at}
-use Rattle.soundness.proofs.world.Ops.{reads}
-use Rattle.soundness.proofs.world.Swap.{reads-way, Wrote, writes, lev-mid, Kept, out-en, swap-world}
-use Rattle.soundness.proofs.world.Tops.{owned-top}
-use Rattle.soundness.proofs.world.Refs.{owner-of}
+use Rattle.soundness.proofs.memory.Typing.{typed-replace, subtree-replace}
+use Rattle.soundness.proofs.loans.Stack.{none-below, pop-borrows}
+use Rattle.soundness.proofs.invariant.Levels.{anchored-under, entry-back, level-kinds, entry-ok-mid, entries-length, Entry-at, entry-at}
+use Rattle.soundness.proofs.invariant.Top.{reads}
+use Rattle.soundness.proofs.invariant.Replace.{reads-way, Wrote, writes, level-mid, Refs-stay, removed-entry, replace-at}
+use Rattle.soundness.proofs.invariant.Values.{owned-top}
+use Rattle.soundness.proofs.invariant.Borrows.{owner-of}
 use Rattle.soundness.proofs.statics.Rules.{there-is, same-ty-is}
-use Rattle.soundness.proofs.frames.Names.{spared-by-name, free-spares, entry-of}
-use Rattle.soundness.proofs.frames.Splits.{split-lev, Cut, split-trees, swap-name}
-use Rattle.soundness.proofs.Claims.{safe-then, safe-need}
+use Rattle.soundness.proofs.frames.Names.{not-lent-by-name, free-not-among, name-entry}
+use Rattle.soundness.proofs.frames.Moves.{split-level, Cut, split-trees, swap-name}
+use Rattle.soundness.proofs.Safety.{safe-then, safe-need}
 
 -- what was there is dropped; the frame stands
-drop-old : (q : Prog) (m : Limits) (u : ℕ) → All q m u → (C : List En) (ln : List Ln) (g2 : ch.Env) (d : me.Env) (F : List En) (T : List Tr) (t : State) (k : ℕ) (e : En) (v : Value) → e .at ≡ flying v → t .under ≡ k → Match (length C) ln g2 d F → World (q .datas) (e ∷ (F ++ C)) T t → Safe (After-exec q C ln g2 d k) (me.then (drops u m q v t) (λ j y. me.ok d y))
+drop-old : (q : Prog) (m : Limits) (u : ℕ) → Preserved q m u → (C : List Entry) (ln : List Level-loan) (g2 : ch.Env) (d : me.Env) (F : List Entry) (T : List Tree) (t : State) (k : ℕ) (e : Entry) (v : Value) → e .at ≡ in-flight v → t .under ≡ k → Scope (length C) ln g2 d F → Invariant (q .datas) (e ∷ (F ++ C)) T t → Safe (After-exec q C ln g2 d k) (me.then (drops u m q v t) (λ j y. me.ok d y))
 drop-old q m u h C ln g2 d F T t k e v e-at un mt w =
     safe-then (λ j y. After-end q (F ++ C) (t .under) y) (After-exec q C ln g2 d k) (drops u m q v t) (λ j y. me.ok d y) (h .drops-ok e (F ++ C) T t v e-at w)
     (λ j y a. record { newer = []; grown = refl; F = F; T = a .T; names = mt; world = a .world; under = a .under ∙ un })
 
 -- x = e
-pub assign-step : (q : Prog) (m : Limits) (u : ℕ) → All q m u → (C : List En) (ln : List Ln) (g g2 : ch.Env) (d : me.Env) (F : List En) (T : List Tr) (s : State) (x : Lexeme) (e1 : Expr) → ch.stmt q g (assign x e1) ≡ some g2 → Scene C ln [] g d [] F → World (q .datas) (F ++ C) T s → Safe (After-exec q C ln g2 d (s .under)) (exec (suc u) m q d (assign x e1) s)
+pub assign-step : (q : Prog) (m : Limits) (u : ℕ) → Preserved q m u → (C : List Entry) (ln : List Level-loan) (g g2 : ch.Env) (d : me.Env) (F : List Entry) (T : List Tree) (s : State) (x : Lexeme) (e1 : Expr) → ch.stmt q g (assign x e1) ≡ some g2 → Frame C ln [] g d [] F → Invariant (q .datas) (F ++ C) T s → Safe (After-exec q C ln g2 d (s .under)) (exec (suc u) m q d (assign x e1) s)
 unfolding me.eval
 assign-step q m u h C ln g g2 d F T s x e1 e sc w =
     let y = if-some-is (ch.expr q [] g e1) (λ r. if-some (look (r .env) x) (λ v. only-if (owned (v .ty) && (same-ty (r .ty) (v .ty) && is-free (all-loans (r .env)) x)) (some (set-gone false (r .env) x)))) g2 e in
@@ -52,120 +52,120 @@ assign-step q m u h C ln g g2 d F T s x e1 e sc w =
     let at-old : Value → State → ℕ → Value → Res me.Env = λ v t k old. me.need t (write-at t (here k) v) (λ t2. me.then (drops u m q old t2) (λ j t3. me.ok d t3)) in
     safe-then (After-eval q C ln d [] r (s .under)) P (eval u m q d e1 s) (λ v t. me.need t (root-of d x) (λ k. me.need t (read-at t (here k)) (at-old v t k)))
     (h .eval-ok C ln [] g d [] F T s e1 r (y .1) sc w)
-    (λ v t a. (let fl : Flight v (vx .ty) (a .top) = subst (λ k. Flight v k (a .top)) (same-ty-is (r .ty) (vx .ty) (and-left (same-ty (r .ty) (vx .ty)) (is-free (all-loans (r .env)) x) z2)) (a .flight) in
+    (λ v t a. (let fl : Value-entry v (vx .ty) (a .top) = subst (λ k. Value-entry v k (a .top)) (same-ty-is (r .ty) (vx .ty) (and-left (same-ty (r .ty) (vx .ty)) (is-free (all-loans (r .env)) x) z2)) (a .flight) in
     let o = owned-top (q .datas) (a .top) (a .F ++ C) (a .T) t v (vx .ty) ow fl (a .world) in
-    let sw = swap-name (q .datas) C ln [] (r .env) d [] (a .F) x vx false (a .top) (o .tree) (o .rest) t (record { names = a .names; above = λ l i. absurd i; under = sc .under }) (y2 .1) ow (and-right (same-ty (r .ty) (vx .ty)) (is-free (all-loans (r .env)) x) z2) (fl .place ∙ ap flying (o .value)) (o .stored) (inl (o .typed)) (subst (λ k. World (q .datas) (a .top ∷ (a .F ++ C)) k t) (o .trees) (a .world)) in
+    let sw = swap-name (q .datas) C ln [] (r .env) d [] (a .F) x vx false (a .top) (o .tree) (o .rest) t (record { names = a .names; above = λ l i. absurd i; under = sc .under }) (y2 .1) ow (and-right (same-ty (r .ty) (vx .ty)) (is-free (all-loans (r .env)) x) z2) (fl .place ∙ ap in-flight (o .value)) (o .stored) (inl (o .typed)) (subst (λ k. Invariant (q .datas) (a .top ∷ (a .F ++ C)) k t) (o .trees) (a .world)) in
     safe-need P t (root-of d x) (λ k. me.need t (read-at t (here k)) (at-old v t k)) (sw .root) (sw .named)
     (safe-need P t (read-at t (here (sw .root))) (at-old v t (sw .root)) (flat (sw .old)) (sw .reads-old)
     (safe-need P t (write-at t (here (sw .root)) v) (λ t2. me.then (drops u m q (flat (sw .old)) t2) (λ j t3. me.ok d t3)) (sw .s2) (ap (write-at t (here (sw .root))) (o .value) ∙ sw .writes-new)
-    (drop-old q m u h C ln g2 d (sw .F) (sw .old ∷ sw .T) (sw .s2) (s .under) (out-en (sw .old) (vx .gone) (vx .ty)) (flat (sw .old)) refl (sw .under ∙ a .under) (subst (λ k. Match (length C) ln k d (sw .F)) (some-is (z .1)) (sw .names)) (sw .world))))))
+    (drop-old q m u h C ln g2 d (sw .F) (sw .old ∷ sw .T) (sw .s2) (s .under) (removed-entry (sw .old) (vx .gone) (vx .ty)) (flat (sw .old)) refl (sw .under ∙ a .under) (subst (λ k. Scope (length C) ln k d (sw .F)) (some-is (z .1)) (sw .names)) (sw .world))))))
 
 -- a value on top goes in where a mut points that's free
-pub record Put (ds : List Data) (N : List En) (y : Tr) (s : State) (u : Ty) (w : Value) : Type 0 where
+pub record Put (ds : List Data) (N : List Entry) (y : Tree) (s : State) (u : Ty) (w : Value) : Type 0 where
   pub loc : Loc
-  pub old : Tr
+  pub old : Tree
   pub s2 : State
-  pub T : List Tr
+  pub T : List Tree
   pub place : w ≡ ref-v loc
   pub reads-old : read-at s loc ≡ some (flat old)
   pub typed : Typed ds old u
   pub writes-new : write-at s loc (flat y) ≡ some s2
-  pub world : World ds (out-en old false u ∷ N) (old ∷ T) s2
+  pub world : Invariant ds (removed-entry old false u ∷ N) (old ∷ T) s2
   pub under : s2 .under ≡ s .under
 
-sub-void : (ds : List Data) (way : Way-down) (part : Tr) (u : Ty) → sub way void ≡ some part → Typed ds part u → ⊥
-sub-void ds [] part u e ty = subst (λ z. Typed ds z u) (sym (some-is e)) ty
-sub-void ds (fld i ∷ is) part u e ty = no-some e
-sub-void ds (ins ∷ is) part u e ty = no-some e
+subtree-hole : (ds : List Data) (way : Path) (part : Tree) (u : Ty) → subtree way hole-t ≡ some part → Typed ds part u → ⊥
+subtree-hole ds [] part u e ty = subst (λ z. Typed ds z u) (sym (some-is e)) ty
+subtree-hole ds (field-step i ∷ is) part u e ty = no-some e
+subtree-hole ds (box-step ∷ is) part u e ty = no-some e
 
-put-in : (ds : List Data) (top : En) (N : List En) (y : Tr) (T : List Tr) (s : State) (u : Ty) (a : Addr) (ls : List Ln) (w : Value) (lx : ℕ) → top .at ≡ flying (flat y) → Stored (s .roots) y → Typed ds y u → owned u ≡ true → lev (shapes N) lx ≡ some (pts true u a ls) → (Lent (shapes N) lx false → ⊥) → Points ds N T u a w → World ds (top ∷ N) (y ∷ T) s → Put ds N y s u w
+put-in : (ds : List Data) (top : Entry) (N : List Entry) (y : Tree) (T : List Tree) (s : State) (u : Ty) (a : Addr) (ls : List Level-loan) (w : Value) (lx : ℕ) → top .at ≡ in-flight (flat y) → Stored (s .roots) y → Typed ds y u → owned u ≡ true → at-level (kinds N) lx ≡ some (borrow true u a ls) → (Lent (kinds N) lx false → ⊥) → Valid-ref ds N T u a w → Invariant ds (top ∷ N) (y ∷ T) s → Put ds N y s u w
 put-in ds top N y T s u a ls w lx t-at st-y ty-y ow x-at free pt wo = record {
-  loc = lies (here r) (a .way) tr;
+  loc = loc-down (here r) (a .path) tr;
   old = old;
   s2 = wr .s2;
-  T = cu .T1 ++ (repl (a .way) y tr ∷ cu .T2);
-  place = pt .value ∙ ap (λ z. ref-v (lies (here r) (a .way) z)) (sym tr-is);
+  T = cu .T1 ++ (replace (a .path) y tr ∷ cu .T2);
+  place = pt .value ∙ ap (λ z. ref-v (loc-down (here r) (a .path) z)) (sym tr-is);
   reads-old = rd;
   typed = pt .typed;
   writes-new = wr .is;
-  world = subst (λ z. World ds (out-en old false u ∷ z) (old ∷ (cu .T1 ++ (repl (a .way) y tr ∷ cu .T2))) (wr .s2)) (sym (sp .2))
-      (swap-world ds top y N1 ex N2 (cu .T1) tr (cu .T2) s r tx (a .way) old (ex .gone) false u t-at st-y ex-at (eb .2) (cu .len1) (cu .len2) lead wr content (inl (pt .typed)) ow kept w2);
+  world = subst (λ z. Invariant ds (removed-entry old false u ∷ z) (old ∷ (cu .T1 ++ (replace (a .path) y tr ∷ cu .T2))) (wr .s2)) (sym (sp .2))
+      (replace-at ds top y N1 ex N2 (cu .T1) tr (cu .T2) s r tx (a .path) old (ex .gone) false u t-at st-y ex-at (eb .2) (cu .len1) (cu .len2) lead wr content (inl (pt .typed)) ow kept w2);
   under = wr .under;
 }
   where
-    sn : Sane (shapes N)
-    sn = off-top (top .sh) (shapes N) (wo .sane)
+    sn : Well-borrowed (kinds N)
+    sn = pop-borrows (top .kind) (kinds N) (wo .borrows)
 
-    own1 : (t : Ty) × (lev (shapes N) (a .cell) ≡ some (own t))
-    own1 = owner-of (shapes N) (sn .homed) lx (pts true u a ls) a x-at refl
+    own1 : (t : Ty) × (at-level (kinds N) (a .owner) ≡ some (own t))
+    own1 = owner-of (kinds N) (sn .anchored) lx (borrow true u a ls) a x-at refl
 
     tx : Ty
     tx = own1 .0
 
-    eb : (e : En) × (lev N (a .cell) ≡ some e) × (e .sh ≡ own tx)
-    eb = entry-back N (a .cell) (own tx) (own1 .1)
+    eb : (e : Entry) × (at-level N (a .owner) ≡ some e) × (e .kind ≡ own tx)
+    eb = entry-back N (a .owner) (own tx) (own1 .1)
 
-    ex : En
+    ex : Entry
     ex = eb .0
 
-    sp : (N1 : List En) × (N2 : List En) × (N ≡ N1 ++ (ex ∷ N2)) × (length N2 ≡ a .cell)
-    sp = split-lev N (a .cell) ex (eb .1)
+    sp : (N1 : List Entry) × (N2 : List Entry) × (N ≡ N1 ++ (ex ∷ N2)) × (length N2 ≡ a .owner)
+    sp = split-level N (a .owner) ex (eb .1)
 
-    N1 : List En
+    N1 : List Entry
     N1 = sp .0
 
-    N2 : List En
+    N2 : List Entry
     N2 = sp .1
 
     r : ℕ
     r = pt .root
 
-    st : Stands ds (s .roots) N T (a .cell) ex
-    st = fine-at ds (s .roots) N T (a .cell) ex (wo .fine .1) (eb .1)
+    st : Entry-at ds (s .roots) N T (a .owner) ex
+    st = entry-at ds (s .roots) N T (a .owner) ex (wo .fine .1) (eb .1)
 
     ex-at : ex .at ≡ rooted r 0
     ex-at = some-is (sym (st .place) ∙ pt .standing)
 
-    w1 : World ds (top ∷ (N1 ++ (ex ∷ N2))) (y ∷ T) s
-    w1 = subst (λ z. World ds (top ∷ z) (y ∷ T) s) (sp .2) wo
+    w1 : Invariant ds (top ∷ (N1 ++ (ex ∷ N2))) (y ∷ T) s
+    w1 = subst (λ z. Invariant ds (top ∷ z) (y ∷ T) s) (sp .2) wo
 
     cu : Cut N1 N2 T
-    cu = split-trees N1 ex N2 T (fine-length ds (s .roots) (N1 ++ (ex ∷ N2)) T (w1 .fine .1))
+    cu = split-trees N1 ex N2 T (entries-length ds (s .roots) (N1 ++ (ex ∷ N2)) T (w1 .fine .1))
 
-    tr : Tr
+    tr : Tree
     tr = cu .tree
 
-    w2 : World ds (top ∷ (N1 ++ (ex ∷ N2))) (y ∷ (cu .T1 ++ (tr ∷ cu .T2))) s
-    w2 = subst (λ z. World ds (top ∷ (N1 ++ (ex ∷ N2))) (y ∷ z) s) (cu .is) w1
+    w2 : Invariant ds (top ∷ (N1 ++ (ex ∷ N2))) (y ∷ (cu .T1 ++ (tr ∷ cu .T2))) s
+    w2 = subst (λ z. Invariant ds (top ∷ (N1 ++ (ex ∷ N2))) (y ∷ z) s) (cu .is) w1
 
     tr-is : tr ≡ pt .whole
-    tr-is = some-is (sym (lev-mid (cu .T1) tr (cu .T2)) ∙ ap (λ z. lev z (length (cu .T2))) (sym (cu .is)) ∙ ap (lev T) (cu .len2 ∙ sp .3) ∙ pt .holding)
+    tr-is = some-is (sym (level-mid (cu .T1) tr (cu .T2)) ∙ ap (λ z. at-level z (length (cu .T2))) (sym (cu .is)) ∙ ap (at-level T) (cu .len2 ∙ sp .3) ∙ pt .holding)
 
-    old : Tr
+    old : Tree
     old = pt .part
 
-    lead : sub (a .way) tr ≡ some old
-    lead = ap (sub (a .way)) tr-is ∙ pt .leading
+    lead : subtree (a .path) tr ≡ some old
+    lead = ap (subtree (a .path)) tr-is ∙ pt .leading
 
-    f-ex : Fine1 ds (s .roots) (rooted r 0) (ex .gone) (own tx) tr N2 (cu .T2)
-    f-ex = subst (λ z. Fine1 ds (s .roots) z (ex .gone) (own tx) tr N2 (cu .T2)) ex-at (subst (λ z. Fine1 ds (s .roots) (ex .at) (ex .gone) z tr N2 (cu .T2)) (eb .2) (fine-mid ds (s .roots) N1 (cu .T1) ex N2 tr (cu .T2) (cu .len1) (w2 .fine .1)))
+    f-ex : Entry-ok ds (s .roots) (rooted r 0) (ex .gone) (own tx) tr N2 (cu .T2)
+    f-ex = subst (λ z. Entry-ok ds (s .roots) z (ex .gone) (own tx) tr N2 (cu .T2)) ex-at (subst (λ z. Entry-ok ds (s .roots) (ex .at) (ex .gone) z tr N2 (cu .T2)) (eb .2) (entry-ok-mid ds (s .roots) N1 (cu .T1) ex N2 tr (cu .T2) (cu .len1) (w2 .fine .1)))
 
-    rd : read-at s (lies (here r) (a .way) tr) ≡ some (flat old)
-    rd = reads-way s (here r) (a .way) tr old lead (f-ex .1) (reads s r (flat tr) 0 (f-ex .0))
+    rd : read-at s (loc-down (here r) (a .path) tr) ≡ some (flat old)
+    rd = reads-way s (here r) (a .path) tr old lead (f-ex .1) (reads s r (flat tr) 0 (f-ex .0))
 
-    wr : Wrote s (lies (here r) (a .way) tr) (flat y)
-    wr = writes s (lies (here r) (a .way) tr) (flat y) (flat old) rd
+    wr : Wrote s (loc-down (here r) (a .path) tr) (flat y)
+    wr = writes s (loc-down (here r) (a .path) tr) (flat y) (flat old) rd
 
-    whole : Content ds (ex .gone) tx tr → Content ds (ex .gone) tx (repl (a .way) y tr)
-    whole (inl ty) = inl (typed-repl ds (a .way) tr y old tx u lead ty (pt .typed) ty-y)
-    whole (inr g) = absurd (sub-void ds (a .way) old u (ap (sub (a .way)) (sym (g .1)) ∙ lead) (pt .typed))
+    whole : Content ds (ex .gone) tx tr → Content ds (ex .gone) tx (replace (a .path) y tr)
+    whole (inl ty) = inl (typed-replace ds (a .path) tr y old tx u lead ty (pt .typed) ty-y)
+    whole (inr g) = absurd (subtree-hole ds (a .path) old u (ap (subtree (a .path)) (sym (g .1)) ∙ lead) (pt .typed))
 
-    content : Content ds (ex .gone) tx (repl (a .way) y tr)
+    content : Content ds (ex .gone) tx (replace (a .path) y tr)
     content = whole (f-ex .3)
 
-    kept : Kept ds r (a .way) tr y ex ex-at (ex .gone) N2 (cu .T2) (cu .len2) N1
-    kept j al t b ms part at-j cell lead2 ty = sub-repl ds (here r) (a .way) (b .way) tr y old part u t lead (pt .typed) ty-y
-        (λ bel. spared (shapes N) (sn .apart) lx (pts true u a ls) a x-at refl refl free j (pts al t b ms) b (ap (λ z. lev (shapes z) j) (sp .2) ∙ at-j) refl (sym (sp .3) ∙ sym cell) bel) lead2 ty
+    kept : Refs-stay ds r (a .path) tr y ex ex-at (ex .gone) N2 (cu .T2) (cu .len2) N1
+    kept j al t b ms part at-j cell lead2 ty = subtree-replace ds (here r) (a .path) (b .path) tr y old part u t lead (pt .typed) ty-y
+        (λ bel. none-below (kinds N) (sn .exclusivity) lx (borrow true u a ls) a x-at refl refl free j (borrow al t b ms) b (ap (λ z. at-level (kinds z) j) (sp .2) ∙ at-j) refl (sym (sp .3) ∙ sym cell) bel) lead2 ty
 
 stores-is : (g : ch.Env) (x : Lexeme) (t tx : Ty) (h : ch.Env) → stores g x t tx ≡ some h → (u : Ty) × (tx ≡ mut u) × (owned u ≡ true) × (t ≡ u) × (is-free (all-loans g) x ≡ true) × (g ≡ h)
 stores-is g x t int h e = absurd (no-some e)
@@ -177,44 +177,44 @@ stores-is g x t (mut u) h e =
     let z2 = and-right (owned u) (same-ty t u && is-free (all-loans g) x) (z .0) in
     (u, refl, and-left (owned u) (same-ty t u && is-free (all-loans g) x) (z .0), same-ty-is t u (and-left (same-ty t u) (is-free (all-loans g) x) z2), and-right (same-ty t u) (is-free (all-loans g) x) z2, some-is (z .1))
 
-pub typed-there : (ds : List Data) (x : Tr) (t : Ty) → Typed ds x t → me.there (flat x) ≡ some (flat x)
-typed-there ds (num k) t ty = refl
-typed-there ds (con k ts) t ty = refl
-typed-there ds (bx r k y) t ty = refl
-typed-there ds void t ty = absurd ty
+pub typed-there : (ds : List Data) (x : Tree) (t : Ty) → Typed ds x t → me.there (flat x) ≡ some (flat x)
+typed-there ds (int-t k) t ty = refl
+typed-there ds (con-t k ts) t ty = refl
+typed-there ds (box-t r k y) t ty = refl
+typed-there ds hole-t t ty = absurd ty
 
 -- what a mut's name holds
-pub record Mut-at (ds : List Data) (N : List En) (T : List Tr) (s : State) (lx root : ℕ) (u : Ty) : Type 0 where
+pub record Mut-at (ds : List Data) (N : List Entry) (T : List Tree) (s : State) (lx root : ℕ) (u : Ty) : Type 0 where
   pub addr : Addr
-  pub ls : List Ln
+  pub ls : List Level-loan
   pub val : Value
-  pub shaped : lev (shapes N) lx ≡ some (pts true u addr ls)
+  pub shaped : at-level (kinds N) lx ≡ some (borrow true u addr ls)
   pub reads-it : read-at s (here root) ≡ some val
-  pub points : Points ds N T u addr val
+  pub points : Valid-ref ds N T u addr val
 
-mut-at : (ds : List Data) (N : List En) (T : List Tr) (s : State) (lx root : ℕ) (u : Ty) (e : En) → Suits (mut u) (e .sh) → e .at ≡ rooted root 0 → lev N lx ≡ some e → Fine ds (s .roots) N T → Mut-at ds N T s lx root u
-mut-at ds N T s lx root u e su e-at at1 fi = go (e .sh) su (lev-shapes N lx e at1) (st .fine1)
+mut-at : (ds : List Data) (N : List Entry) (T : List Tree) (s : State) (lx root : ℕ) (u : Ty) (e : Entry) → Kind-fits (mut u) (e .kind) → e .at ≡ rooted root 0 → at-level N lx ≡ some e → Entries-ok ds (s .roots) N T → Mut-at ds N T s lx root u
+mut-at ds N T s lx root u e su e-at at1 fi = go (e .kind) su (level-kinds N lx e at1) (st .fine1)
   where
-    st : Stands ds (s .roots) N T lx e
-    st = fine-at ds (s .roots) N T lx e fi at1
+    st : Entry-at ds (s .roots) N T lx e
+    st = entry-at ds (s .roots) N T lx e fi at1
 
-    go : (sh : Sh) → Suits (mut u) sh → lev (shapes N) lx ≡ some sh → Fine1 ds (s .roots) (e .at) (e .gone) sh (st .tree) N T → Mut-at ds N T s lx root u
+    go : (sh : Kind) → Kind-fits (mut u) sh → at-level (kinds N) lx ≡ some sh → Entry-ok ds (s .roots) (e .at) (e .gone) sh (st .tree) N T → Mut-at ds N T s lx root u
     go (own t) k a f = absurd (true-false (sym (k .1) ∙ ap owned (sym (k .0))))
-    go (pts true t b ls) k a f =
+    go (borrow true t b ls) k a f =
         let t-is : u ≡ t = cc in
         record {
           addr = b;
           ls = ls;
           val = f .1 .0;
-          shaped = a ∙ ap {B = Option Sh} (λ z. some (pts true z b ls)) (sym t-is);
-          reads-it = reads s root (f .1 .0) 0 (subst (λ z. Cell (s .roots) z (f .1 .0)) e-at (f .1 .1));
-          points = subst (λ z. Points ds N T z b (f .1 .0)) (sym t-is) (f .1 .2);
+          shaped = a ∙ ap {B = Option Kind} (λ z. some (borrow true z b ls)) (sym t-is);
+          reads-it = reads s root (f .1 .0) 0 (subst (λ z. Holds (s .roots) z (f .1 .0)) e-at (f .1 .1));
+          points = subst (λ z. Valid-ref ds N T z b (f .1 .0)) (sym t-is) (f .1 .2);
         }
-    go (pts false t b ls) k a f = absurd (let z : _≡_ {A = ℕ} 0 1 = cc in omega arith)
+    go (borrow false t b ls) k a f = absurd (let z : _≡_ {A = ℕ} 0 1 = cc in omega arith)
     go inert k a f = absurd k
 
 -- *x = e
-pub store-step : (q : Prog) (m : Limits) (u : ℕ) → All q m u → (C : List En) (ln : List Ln) (g g2 : ch.Env) (d : me.Env) (F : List En) (T : List Tr) (s : State) (x : Lexeme) (e1 : Expr) → ch.stmt q g (store x e1) ≡ some g2 → Scene C ln [] g d [] F → World (q .datas) (F ++ C) T s → Safe (After-exec q C ln g2 d (s .under)) (exec (suc u) m q d (store x e1) s)
+pub store-step : (q : Prog) (m : Limits) (u : ℕ) → Preserved q m u → (C : List Entry) (ln : List Level-loan) (g g2 : ch.Env) (d : me.Env) (F : List Entry) (T : List Tree) (s : State) (x : Lexeme) (e1 : Expr) → ch.stmt q g (store x e1) ≡ some g2 → Frame C ln [] g d [] F → Invariant (q .datas) (F ++ C) T s → Safe (After-exec q C ln g2 d (s .under)) (exec (suc u) m q d (store x e1) s)
 unfolding me.eval
 store-step q m u h C ln g g2 d F T s x e1 e sc w =
     let y = if-some-is (ch.expr q [] g e1) (λ r. if-some (ch.there (r .env) x) (λ v. stores (r .env) x (r .ty) (v .ty))) g2 e in
@@ -231,17 +231,17 @@ store-step q m u h C ln g g2 d F T s x e1 e sc w =
     let f1 : Value → State → ℕ → Res me.Env = λ v t k. me.need t (read-at t (here k)) (f2 v t) in
     safe-then (After-eval q C ln d [] r (s .under)) P (eval u m q d e1 s) (λ v t. me.need t (root-of d x) (f1 v t))
     (h .eval-ok C ln [] g d [] F T s e1 r (y .1) sc w)
-    (λ v t a. (let fl : Flight v tu (a .top) = subst (λ k. Flight v k (a .top)) (si .3) (a .flight) in
+    (λ v t a. (let fl : Value-entry v tu (a .top) = subst (λ k. Value-entry v k (a .top)) (si .3) (a .flight) in
     let o = owned-top (q .datas) (a .top) (a .F ++ C) (a .T) t v tu (si .2) fl (a .world) in
-    let w2 : World (q .datas) (a .top ∷ (a .F ++ C)) (o .tree ∷ o .rest) t = subst (λ k. World (q .datas) (a .top ∷ (a .F ++ C)) k t) (o .trees) (a .world) in
-    let sc2 : Scene C ln [] (r .env) d [] (a .F) = record { names = a .names; above = λ l i. absurd i; under = sc .under } in
-    let en = entry-of C ln (r .env) d (a .F) x vx (a .names) (th .0) in
-    let mu = mut-at (q .datas) (a .F ++ C) (o .rest) t (en .level) (en .root) tu (en .en) (subst (λ k. Suits k (en .en .sh)) (si .1) (en .type)) (en .placed) (en .stands) (w2 .fine .1) in
-    let free = spared-by-name C ln [] (r .env) d [] (a .F) x (en .level) false sc2 (homed-under (a .F) C (w2 .sane .homed .1)) (en .levelled) (free-spares (all-loans (r .env)) x (si .4)) in
-    let pu = put-in (q .datas) (a .top) (a .F ++ C) (o .tree) (o .rest) t tu (mu .addr) (mu .ls) (mu .val) (en .level) (fl .place ∙ ap flying (o .value)) (o .stored) (o .typed) (si .2) (mu .shaped) free (mu .points) w2 in
+    let w2 : Invariant (q .datas) (a .top ∷ (a .F ++ C)) (o .tree ∷ o .rest) t = subst (λ k. Invariant (q .datas) (a .top ∷ (a .F ++ C)) k t) (o .trees) (a .world) in
+    let sc2 : Frame C ln [] (r .env) d [] (a .F) = record { names = a .names; above = λ l i. absurd i; under = sc .under } in
+    let en = name-entry C ln (r .env) d (a .F) x vx (a .names) (th .0) in
+    let mu = mut-at (q .datas) (a .F ++ C) (o .rest) t (en .level) (en .root) tu (en .en) (subst (λ k. Kind-fits k (en .en .kind)) (si .1) (en .type)) (en .placed) (en .stands) (w2 .fine .1) in
+    let free = not-lent-by-name C ln [] (r .env) d [] (a .F) x (en .level) false sc2 (anchored-under (a .F) C (w2 .borrows .anchored .1)) (en .levelled) (free-not-among (all-loans (r .env)) x (si .4)) in
+    let pu = put-in (q .datas) (a .top) (a .F ++ C) (o .tree) (o .rest) t tu (mu .addr) (mu .ls) (mu .val) (en .level) (fl .place ∙ ap in-flight (o .value)) (o .stored) (o .typed) (si .2) (mu .shaped) free (mu .points) w2 in
     safe-need P t (root-of d x) (f1 v t) (en .root) (en .named)
     (safe-need P t (read-at t (here (en .root))) (f2 v t) (mu .val) (mu .reads-it)
     (safe-need P t (loc-of (mu .val)) (f3 v t) (pu .loc) (ap loc-of (pu .place))
     (safe-need P t (if-some (read-at t (pu .loc)) me.there) (f4 v t (pu .loc)) (flat (pu .old)) (ap (λ z. if-some z me.there) (pu .reads-old) ∙ typed-there (q .datas) (pu .old) tu (pu .typed))
     (safe-need P t (write-at t (pu .loc) v) (λ t2. me.then (drops u m q (flat (pu .old)) t2) (λ j t3. me.ok d t3)) (pu .s2) (ap (write-at t (pu .loc)) (o .value) ∙ pu .writes-new)
-    (drop-old q m u h C ln g2 d (a .F) (pu .old ∷ pu .T) (pu .s2) (s .under) (out-en (pu .old) false tu) (flat (pu .old)) refl (pu .under ∙ a .under) (subst (λ k. Match (length C) ln k d (a .F)) (si .5) (a .names)) (pu .world))))))))
+    (drop-old q m u h C ln g2 d (a .F) (pu .old ∷ pu .T) (pu .s2) (s .under) (removed-entry (pu .old) false tu) (flat (pu .old)) refl (pu .under ∙ a .under) (subst (λ k. Scope (length C) ln k d (a .F)) (si .5) (a .names)) (pu .world))))))))

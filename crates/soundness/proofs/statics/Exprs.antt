@@ -11,17 +11,17 @@ use Rattle.language.specs.Checks.{Loan, Var, fn-named, home-of, types-of-pars, 
 use Rattle.language.specs.Checks as ch
 use Rattle.soundness.proofs.Basics.{no-some, some-is, if-some-is, only-is, true-false, same-is}
 
-abbrev pub Like : Env → Env → Type 0
-Like [] [] = Unit {0}
-Like [] (w ∷ h) = ⊥
-Like (v ∷ g) [] = ⊥
-Like (v ∷ g) (w ∷ h) = (v .name ≡ w .name) × (v .ty ≡ w .ty) × (v .loans ≡ w .loans) × Like g h
+abbrev pub Env-like : Env → Env → Type 0
+Env-like [] [] = Unit {0}
+Env-like [] (w ∷ h) = ⊥
+Env-like (v ∷ g) [] = ⊥
+Env-like (v ∷ g) (w ∷ h) = (v .name ≡ w .name) × (v .ty ≡ w .ty) × (v .loans ≡ w .loans) × Env-like g h
 
-pub like-self : (g : Env) → Like g g
+pub like-self : (g : Env) → Env-like g g
 like-self [] = tt
 like-self (v ∷ g) = (refl, refl, refl, like-self g)
 
-pub like-then : (f g h : Env) → Like f g → Like g h → Like f h
+pub like-then : (f g h : Env) → Env-like f g → Env-like g h → Env-like f h
 like-then [] [] [] a b = tt
 like-then [] [] (w ∷ h) a b = absurd b
 like-then [] (v ∷ g) h a b = absurd a
@@ -29,25 +29,25 @@ like-then (u ∷ f) [] h a b = absurd a
 like-then (u ∷ f) (v ∷ g) [] a b = absurd b
 like-then (u ∷ f) (v ∷ g) (w ∷ h) a b = (a .0 ∙ b .0, a .1 ∙ b .1, a .2 ∙ b .2, like-then f g h (a .3) (b .3))
 
-pub like-gone : (z : Bool) (g : Env) (x : Lexeme) → Like g (set-gone z g x)
+pub like-gone : (z : Bool) (g : Env) (x : Lexeme) → Env-like g (set-gone z g x)
 like-gone z [] x = tt
 like-gone z (v ∷ g) x = go (same (v .name) x) (like-gone z g x)
   where
-    go : (y : Bool) → Like g (set-gone z g x) → Like (v ∷ g) (choose y (record { name = v .name; ty = v .ty; gone = z; loans = v .loans } ∷ g) (v ∷ set-gone z g x))
+    go : (y : Bool) → Env-like g (set-gone z g x) → Env-like (v ∷ g) (choose y (record { name = v .name; ty = v .ty; gone = z; loans = v .loans } ∷ g) (v ∷ set-gone z g x))
     go true h = (refl, refl, refl, like-self g)
     go false h = (refl, refl, refl, h)
 
-env-is : (g : Env) (t : Ty) (ls : List Loan) (h : Env) (r : Typed) → Like g h → typed t ls h ≡ some r → Like g (r .env)
-env-is g t ls h r l e = subst (λ z. Like g (z .env)) (some-is e) l
+env-is : (g : Env) (t : Ty) (ls : List Loan) (h : Env) (r : Typed) → Env-like g h → typed t ls h ≡ some r → Env-like g (r .env)
+env-is g t ls h r l e = subst (λ z. Env-like g (z .env)) (some-is e) l
 
-value-like : (held : List Loan) (g : Env) (v : Var) (t : Ty) (r : Typed) → value held g v t ≡ some r → Like g (r .env)
+value-like : (held : List Loan) (g : Env) (v : Var) (t : Ty) (r : Typed) → value held g v t ≡ some r → Env-like g (r .env)
 value-like held g v int r e = env-is g int [] g r (like-self g) (only-is _ _ r e .1)
 value-like held g v (dat d) r e = env-is g (dat d) [] (set-gone true g (v .name)) r (like-gone true g (v .name)) (only-is _ _ r e .1)
 value-like held g v (box t) r e = env-is g (box t) [] (set-gone true g (v .name)) r (like-gone true g (v .name)) (only-is _ _ r e .1)
 value-like held g v (ref t) r e = env-is g (ref t) (v .loans) g r (like-self g) (only-is _ _ r e .1)
 value-like held g v (mut t) r e = env-is g (mut t) (loan (v .name) true ∷ []) g r (like-self g) (only-is _ _ r e .1)
 
-shared-like : (held : List Loan) (g : Env) (v : Var) (t : Ty) (r : Typed) → shared held g v t ≡ some r → Like g (r .env)
+shared-like : (held : List Loan) (g : Env) (v : Var) (t : Ty) (r : Typed) → shared held g v t ≡ some r → Env-like g (r .env)
 shared-like held g v int r e = env-is g (ref int) (loan (v .name) false ∷ []) g r (like-self g) (only-is _ _ r e .1)
 shared-like held g v (dat d) r e = env-is g (ref (dat d)) (loan (v .name) false ∷ []) g r (like-self g) (only-is _ _ r e .1)
 shared-like held g v (box t) r e = env-is g (ref (box t)) (loan (v .name) false ∷ []) g r (like-self g) (only-is _ _ r e .1)
@@ -59,7 +59,7 @@ with-is none t f r e = absurd (no-some e)
 with-is (some y) t f r e = (y, refl, only-is (same-ty (y .ty) t) (f (y .loans) (y .env)) r e .1)
 
 mutual
-  pub expr-like : (q : Prog) (held : List Loan) (g : Env) (e : Expr) (r : Typed) → expr q held g e ≡ some r → Like g (r .env)
+  pub expr-like : (q : Prog) (held : List Loan) (g : Env) (e : Expr) (r : Typed) → expr q held g e ≡ some r → Env-like g (r .env)
   expr-like q held g (num k) r h = env-is g int [] g r (like-self g) h
   expr-like q held g (var x) r h = let y = if-some-is (there g x) (λ v. value held g v (v .ty)) r h in value-like held g (y .0) (y .0 .ty) r (y .2)
   expr-like q held g (op o a d) r h =
@@ -82,7 +82,7 @@ mutual
   expr-like q held g (load x) r h = let y = if-some-is (there g x) (λ v. only-if (loadable (v .ty) && readable (held ++ all-loans g) x) (typed int [] g)) r h in env-is g int [] g r (like-self g) (only-is (loadable (y .0 .ty) && readable (held ++ all-loans g) x) (typed int [] g) r (y .2) .1)
   expr-like q held g get-e r h = env-is g int [] g r (like-self g) h
 
-  pub args-like : (q : Prog) (held : List Loan) (g : Env) (es : Exprs) (ts : List Ty) (r : Typed) → args q held g es ts ≡ some r → Like g (r .env)
+  pub args-like : (q : Prog) (held : List Loan) (g : Env) (es : Exprs) (ts : List Ty) (r : Typed) → args q held g es ts ≡ some r → Env-like g (r .env)
   args-like q held g nil-e [] r h = env-is g int [] g r (like-self g) h
   args-like q held g nil-e (t ∷ ts) r h = absurd (no-some h)
   args-like q held g (cons-e e es) [] r h = absurd (no-some h)
@@ -100,13 +100,13 @@ look-name (u ∷ g) x v e = go (same (u .name) x) (same-is (u .name) x) e (look-
     go true h k r = ap (λ z. z .name) (sym (some-is k)) ∙ h refl
     go false h k r = r k
 
-pub like-length : (g h : ch.Env) → Like g h → length g ≡ length h
+pub like-length : (g h : ch.Env) → Env-like g h → length g ≡ length h
 like-length [] [] l = refl
 like-length [] (w ∷ h) l = absurd l
 like-length (v ∷ g) [] l = absurd l
 like-length (v ∷ g) (w ∷ h) l = ap suc (like-length g h (l .3))
 
-pub fresh-like : (g h : ch.Env) (x : Lexeme) → Like g h → look g x ≡ none → look h x ≡ none
+pub fresh-like : (g h : ch.Env) (x : Lexeme) → Env-like g h → look g x ≡ none → look h x ≡ none
 fresh-like [] [] x l e = refl
 fresh-like [] (w ∷ h) x l e = absurd l
 fresh-like (v ∷ g) [] x l e = absurd l

@@ -11,10 +11,10 @@ use Rattle.language.specs.Syntax.{Prog}
 use Rattle.language.specs.Checks as ch
 use Rattle.language.specs.Meaning.{State, Limits, no-stack, no-turns, Res, stop, then, need, turn, goes-under, with-under, eval}
 use Rattle.language.specs.Meaning as me
-use Rattle.soundness.specs.Borrows.{Ln}
-use Rattle.soundness.specs.Invariant.{En}
-use Rattle.soundness.specs.Preserved.{After-exec, All, Safe}
-use Rattle.soundness.proofs.world.Flags.{Weaker, with-flags, weak-frame}
+use Rattle.soundness.specs.Borrows.{Level-loan}
+use Rattle.soundness.specs.Invariant.{Entry}
+use Rattle.soundness.specs.Preserved.{After-exec, Preserved, Safe}
+use Rattle.soundness.proofs.invariant.Flags.{Weaker, with-flags, weak-frame}
 
 pub safe-then : {A C : Type 0} (P : A → State → Type 0) (Q : C → State → Type 0) (r : Res A) (f : A → State → Res C) → Safe P r → ((a : A) (s : State) → P a s → Safe Q (f a s)) → Safe Q (then r f)
 unfolding then
@@ -34,9 +34,9 @@ unfolding goes-under
 safe-under P Q m k s f h g = elim (leb (s .under + k) (m .stack)) as (λ z. Safe Q (choose z (then (f (with-under s (s .under + k))) (λ a t. me.ok a (with-under t (s .under)))) (stop no-stack s))) [ true ↦ safe-then P Q (f (with-under s (s .under + k))) (λ a t. me.ok a (with-under t (s .under))) h g | false ↦ tt ]
 
 -- no fuel: late, which isn't wrong
-pub all-zero : (q : Prog) (m : Limits) → All q m zero
+pub preserved-zero : (q : Prog) (m : Limits) → Preserved q m zero
 unfolding eval
-all-zero q m = record {
+preserved-zero q m = record {
   eval-ok = λ C ln held g d H F T s e r h sc w. tt;
   evals-ok = λ C ln held g d A H F T s es us ts vs r h fl sc w. tt;
   calls-ok = λ C A T s f vs h fl lo w. tt;
@@ -63,7 +63,7 @@ safe-weaken P Q (me.ok a s) f h = f a s h
 safe-weaken P Q (stop k s) f h = h
 
 -- the same with more flags
-pub after-weak : (q : Prog) (C : List En) (ln : List Ln) (g h : ch.Env) (d : me.Env) (k : ℕ) (d2 : me.Env) (s : State) → Weaker g h → After-exec q C ln g d k d2 s → After-exec q C ln h d k d2 s
+pub after-weak : (q : Prog) (C : List Entry) (ln : List Level-loan) (g h : ch.Env) (d : me.Env) (k : ℕ) (d2 : me.Env) (s : State) → Weaker g h → After-exec q C ln g d k d2 s → After-exec q C ln h d k d2 s
 after-weak q C ln g h d k d2 s wk a =
     let r = weak-frame (q .datas) (length C) ln g h d2 [] (a .F) C (a .T) s wk (a .names) (a .world) in
     record { newer = a .newer; grown = a .grown; F = with-flags h (a .F); T = a .T; names = r .0; world = r .1; under = a .under }

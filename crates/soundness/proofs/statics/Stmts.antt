@@ -8,8 +8,8 @@ use Rattle.language.specs.Syntax.{Ty, int, dat, box, ref, mut, Access, Stmt, St
 use Rattle.language.specs.Checks.{Loan, Var, loan, same-ty, owned, Env, look, fresh, set-gone, enter, is-free, readable, all-loans, outer, both, no-more-gone, bind-all, looks-at, stores, ctor-named, there, expr, stmt, stmts, alts, goes-in, boxed-in, covers, alt-names, is-no-alts}
 use Rattle.language.specs.Meaning as me
 use Rattle.soundness.proofs.Basics.{no-some, some-is, if-some-is, only-is, and-left, same-is}
-use Rattle.soundness.proofs.world.Flags.{Weaker}
-use Rattle.soundness.proofs.statics.Likes.{Like, like-self, like-then, like-gone, expr-like, fresh-like}
+use Rattle.soundness.proofs.invariant.Flags.{Weaker}
+use Rattle.soundness.proofs.statics.Exprs.{Env-like, like-self, like-then, like-gone, expr-like, fresh-like}
 use Rattle.soundness.proofs.statics.Rules.{as-int-is}
 use Rattle.soundness.proofs.statics.Scopes.{Distinct, like-distinct, like-sym, both-like, both-left, both-right, Grows, grows-like, grows-then, fresh-none, grows-enter, outer-like, bind-grows, looks-like}
 
@@ -34,7 +34,7 @@ goes-env g v x (mut t) h e =
 grows-is : (g h i : Env) → Grows g h → h ≡ i → Grows g i
 grows-is g h i a e = subst (Grows g) e a
 
-choose-like : (g : Env) (z : Bool) (h i : Env) → Like g h → Like g i → Like g (choose z h i)
+choose-like : (g : Env) (z : Bool) (h i : Env) → Env-like g h → Env-like g i → Env-like g (choose z h i)
 choose-like g true h i a k = a
 choose-like g false h i a k = k
 
@@ -102,15 +102,15 @@ mutual
       let a = stmt-grows q g x (y .0) u (y .1) in
       grows-then g (y .0) h a (stmts-grows q (y .0) xs h (a .distinct) (y .2))
 
-  pub alts-like : (q : Prog) (g : Env) (w : Access) (ls : List Loan) (d : Data) (as₁ : Alts) (h : Env) → Distinct g → alts q g w ls d as₁ ≡ some h → Like g h
-  alts-like q g w ls d no-alts h u e = subst (Like g) (some-is e) (like-self g)
+  pub alts-like : (q : Prog) (g : Env) (w : Access) (ls : List Loan) (d : Data) (as₁ : Alts) (h : Env) → Distinct g → alts q g w ls d as₁ ≡ some h → Env-like g h
+  alts-like q g w ls d no-alts h u e = subst (Env-like g) (some-is e) (like-self g)
   alts-like q g w ls d (alt k xs ss as₁) h u e =
       let y = alt-is q g w ls d k xs ss as₁ h e in
       let bg = bind-grows w ls g xs (y .0 .fields) (y .1) u (y .5) in
       let gr0 : Grows g (y .1) = record { newer = bg .0; older = g; is = bg .1; like = like-self g; distinct = bg .2 } in
       let gr = grows-then g (y .1) (y .2) gr0 (stmts-grows q (y .1) ss (y .2) (bg .2) (y .6)) in
       let lk = outer-like g (y .2) gr in
-      subst (Like g) (y .8) (choose-like g (is-no-alts as₁) (outer g (y .2)) (both (outer g (y .2)) (y .3)) lk (like-then g (outer g (y .2)) (both (outer g (y .2)) (y .3)) lk (both-like (outer g (y .2)) (y .3))))
+      subst (Env-like g) (y .8) (choose-like g (is-no-alts as₁) (outer g (y .2)) (both (outer g (y .2)) (y .3)) lk (like-then g (outer g (y .2)) (both (outer g (y .2)) (y .3)) lk (both-like (outer g (y .2)) (y .3))))
 
 -- the alternative that's found: what its rule says, and that the names behind all alternatives have at least its flags
 pub record Alt-found (q : Prog) (g : Env) (w : Access) (ls : List Loan) (d : Data) (k : Lexeme) (xs : List Lexeme) (ss : Stmts) (g2 : Env) : Type 0 where
@@ -155,7 +155,7 @@ alt-found q g w ls d (alt k1 xs ss as₁) k a g2 u e f = go (same k1 k) (same-is
     left true = weak-self (outer g (y .2))
     left false = both-left (outer g (y .2)) (y .3)
 
-    lk : Like g (y .3)
+    lk : Env-like g (y .3)
     lk = alts-like q g w ls d as₁ (y .3) u (y .7)
 
     right : (zs : Alts) → (o : Option me.Found) → me.find-alt zs k ≡ o → o ≡ some a → Weaker (y .3) (choose (is-no-alts zs) (outer g (y .2)) (both (outer g (y .2)) (y .3)))

@@ -13,14 +13,14 @@ use Rattle.language.specs.Checks as ch
 use Rattle.language.specs.Meaning.{Root, need, calls, blank}
 use Rattle.language.specs.Meaning as me
 use Rattle.language.specs.Says.{«Never-wrong», «Nothing-left», live-roots}
-use Rattle.soundness.specs.Invariant.{total, is-box, World}
-use Rattle.soundness.specs.Frames.{Flown, nothing}
+use Rattle.soundness.specs.Invariant.{live-sum, is-box, Invariant}
+use Rattle.soundness.specs.Frames.{Arguments, no-args}
 use Rattle.soundness.specs.Preserved.{Safe, After-call, Invariant-kept, Run-safe}
 use Rattle.soundness.proofs.Basics.{true-false, and-left, and-right}
-use Rattle.soundness.proofs.world.Ops.{pop-int}
+use Rattle.soundness.proofs.invariant.Top.{pop-int}
 use Rattle.soundness.proofs.statics.Rules.{same-ty-is}
 use Rattle.soundness.proofs.statics.Accepted.{okay, fns-ok}
-use Rattle.soundness.proofs.Claims.{all-zero}
+use Rattle.soundness.proofs.Safety.{preserved-zero}
 use Rattle.soundness.proofs.drops.Drops.{drops-all-suc, ends-suc, parts-suc, drops-suc}
 use Rattle.soundness.proofs.drops.Lasts.{lasts-suc}
 use Rattle.soundness.proofs.exprs.Args.{evals-suc}
@@ -32,9 +32,9 @@ use Rattle.soundness.proofs.calls.Bodies.{bodies-suc}
 use Rattle.soundness.proofs.calls.Calls.{calls-suc}
 use Rattle.soundness.proofs.calls.Step.{tails-suc}
 
-pub all-ok : Invariant-kept
-all-ok q m o zero = all-zero q m
-all-ok q m o (suc u) = let h = all-ok q m o u in record {
+pub preserved : Invariant-kept
+preserved q m o zero = preserved-zero q m
+preserved q m o (suc u) = let h = preserved q m o u in record {
   eval-ok = eval-suc q m u o h;
   evals-ok = evals-suc q m u o h;
   calls-ok = calls-suc q m u o h;
@@ -61,8 +61,8 @@ main-fn : (q : Prog) (o : Option Fn) → from-option o false ch.is-main ≡ true
 main-fn q none e = absurd (true-false (sym e))
 main-fn q (some f) e = (f, refl, no-pars (f .pars) (and-left (eqb (length (f .pars)) 0) (same-ty (f .ret) int) e), same-ty-is (f .ret) int (and-right (eqb (length (f .pars)) 0) (same-ty (f .ret) int) e))
 
-first-world : (q : Prog) (ins : List ℕ) → World (q .datas) [] [] (blank ins)
-first-world q ins = record { sane = record { apart = tt; homed = tt }; fine = tt; weights = λ f. refl; counted = record { by-size = λ k. refl; in-all = refl } }
+first-world : (q : Prog) (ins : List ℕ) → Invariant (q .datas) [] [] (blank ins)
+first-world q ins = record { borrows = record { exclusivity = tt; anchored = tt }; fine = tt; sums = λ f. refl; counted = record { by-size = λ k. refl; in-all = refl } }
 
 pub run-ok : Run-safe
 unfolding need
@@ -70,12 +70,12 @@ run-ok u m q ins o =
     let mn = main-fn q (fn-named (q .funs) ch.w-main) (okay q o .main1) in
     subst (λ z. Safe (After-call q [] [] int 0) (need (blank ins) z (λ f. calls u m q f [] (blank ins)))) (sym (mn .1))
     (subst (λ z. Safe (After-call q [] [] z 0) (calls u m q (mn .0) [] (blank ins))) (mn .3)
-    (all-ok q m o u .calls-ok [] [] [] (blank ins) (mn .0) me.nil-v (fns-ok q o ch.w-main (mn .0) (mn .1)) (subst (λ z. Flown [] z me.nil-v) (sym (mn .2)) nothing) (λ l i. absurd i) (first-world q ins)))
+    (preserved q m o u .calls-ok [] [] [] (blank ins) (mn .0) me.nil-v (fns-ok q o ch.w-main (mn .0) (mn .1)) (subst (λ z. Arguments [] z me.nil-v) (sym (mn .2)) no-args) (λ l i. absurd i) (first-world q ins)))
 
 pub never-wrong : «Never-wrong»
 never-wrong u m q ins s o e = subst (Safe (After-call q [] [] int 0)) e (run-ok u m q ins o)
 
-live-total : (i : ℕ) (rs : List Root) → total (λ j w. 1) i rs ≡ live-roots rs
+live-total : (i : ℕ) (rs : List Root) → live-sum (λ j w. 1) i rs ≡ live-roots rs
 live-total i [] = refl
 live-total i (r ∷ rs) = ap (λ z. choose (r .live) 1 0 + z) (live-total (suc i) rs)
 
@@ -83,4 +83,4 @@ pub nothing-left : «Nothing-left»
 nothing-left u m q ins v s o e =
     let a : After-call q [] [] int 0 v s = subst (Safe (After-call q [] [] int 0)) e (run-ok u m q ins o) in
     let w = pop-int (q .datas) (a .top) [] (a .T) s v (a .flight) (a .world) in
-    (sym (live-total 0 (s .roots)) ∙ sym (w .1 .weights (λ j k. 1)), w .1 .counted .in-all ∙ sym (w .1 .weights is-box), a .under)
+    (sym (live-total 0 (s .roots)) ∙ sym (w .1 .sums (λ j k. 1)), w .1 .counted .in-all ∙ sym (w .1 .sums is-box), a .under)

@@ -8,11 +8,11 @@ use Prim.Native.Nat.{ℕ, zero, suc}
 use Rattle.language.specs.Base.{choose, from-option, Lexeme, same, is-in, each-of}
 use Rattle.language.specs.Checks.{Loan, Var, owned, look, from-caller}
 use Rattle.language.specs.Checks as ch
-use Rattle.soundness.specs.Frames.{Lent-pars}
+use Rattle.soundness.specs.Frames.{Ref-params}
 use Rattle.soundness.proofs.Basics.{no-some, some-is, true-false, or-left, or-right, and-left, and-right, or-case}
-use Rattle.soundness.proofs.statics.Likes.{Like}
+use Rattle.soundness.proofs.statics.Exprs.{Env-like}
 
-look-like : (g h : ch.Env) (x : Lexeme) (v : Var) → Like g h → look g x ≡ some v → (w : Var) × (look h x ≡ some w) × (v .ty ≡ w .ty) × (v .loans ≡ w .loans)
+look-like : (g h : ch.Env) (x : Lexeme) (v : Var) → Env-like g h → look g x ≡ some v → (w : Var) × (look h x ≡ some w) × (v .ty ≡ w .ty) × (v .loans ≡ w .loans)
 look-like [] h x v l e = absurd (no-some e)
 look-like (u ∷ g) [] x v l e = absurd l
 look-like (u ∷ g) (w ∷ h) x v l e = go (same (u .name) x) (same (w .name) x) (ap (λ z. same z x) (l .0)) e (look-like g h x v (l .3))
@@ -27,7 +27,7 @@ each-map : {A : Type 0} (f h : A → Bool) (xs : List A) → ((x : A) → f x �
 each-map f h [] k e = refl
 each-map f h (x ∷ xs) k e = ap (λ z. z && each-of h xs) (k x (and-left (f x) (each-of f xs) e)) ∙ each-map f h xs k (and-right (f x) (each-of f xs) e)
 
-pub from-caller-like : (k : ℕ) (g h : ch.Env) (qs : List Lexeme) (ls : List Loan) → Like g h → from-caller k g qs ls ≡ true → from-caller k h qs ls ≡ true
+pub from-caller-like : (k : ℕ) (g h : ch.Env) (qs : List Lexeme) (ls : List Loan) → Env-like g h → from-caller k g qs ls ≡ true → from-caller k h qs ls ≡ true
 from-caller-like zero g h qs ls l e = e
 from-caller-like (suc k) g h qs ls l e = each-map (test g) (test h) ls (λ x. one x (λ ms. from-caller-like k g h qs ms l)) e
   where
@@ -45,5 +45,5 @@ from-caller-like (suc k) g h qs ls l e = each-map (test g) (test h) ls (λ x. on
             let o2 : from-caller k h qs (w .0 .loans) ≡ true = subst (λ z. from-caller k h qs z ≡ true) (w .3) (ih (v .loans) (and-right (not (owned (v .ty))) (from-caller k g qs (v .loans)) a)) in
             ap (λ z. from-option z false (λ v1. not (owned (v1 .ty)) && from-caller k h qs (v1 .loans))) (w .1) ∙ ap (λ z. z && from-caller k h qs (w .0 .loans)) o1 ∙ o2
 
-pub lent-like : (qs : List Lexeme) (g h : ch.Env) → Like g h → Lent-pars qs g → Lent-pars qs h
+pub lent-like : (qs : List Lexeme) (g h : ch.Env) → Env-like g h → Ref-params qs g → Ref-params qs h
 lent-like qs g h l lp x i = let a = lp x i in let w = look-like g h x (a .0) l (a .1) in (w .0, w .1, sym (w .3) ∙ a .2, ap owned (sym (w .2)) ∙ a .3)

@@ -13,30 +13,30 @@ use Rattle.language.specs.Checks.{Var, owned, look, fresh, set-gone, enter, is-
 use Rattle.language.specs.Checks as ch
 use Rattle.language.specs.Meaning.{Value, Root, State, Limits, Res, here, root-of, read-at, exec, hole, with-roots, adds-root, ends-box, write-at, box-of}
 use Rattle.language.specs.Meaning as me
-use Rattle.soundness.specs.Trees.{Tr, num, con, bx, void, flat, Stored, Typed}
-use Rattle.soundness.specs.Borrows.{Ln, Sh, own, pts, inert}
-use Rattle.soundness.specs.Invariant.{rooted, flying, En, shapes, Content, Idle, weigh-at, World}
-use Rattle.soundness.specs.Frames.{Suits, Match, Scene, part-en}
+use Rattle.soundness.specs.Trees.{Tree, int-t, con-t, box-t, hole-t, flat, Stored, Typed}
+use Rattle.soundness.specs.Borrows.{Level-loan, Kind, own, borrow, inert}
+use Rattle.soundness.specs.Invariant.{rooted, in-flight, Entry, kinds, Content, Idle, place-sum, Invariant}
+use Rattle.soundness.specs.Frames.{Kind-fits, Scope, Frame, owned-entry}
 use Rattle.soundness.specs.Preserved.{Safe, After-exec}
 use Rattle.soundness.proofs.Basics.{no-some, some-is, if-some-is, only-is, true-false, and-left, and-right}
-use Rattle.soundness.proofs.loans.Stack.{own-on-top, inert-on-top, off-top}
-use Rattle.soundness.proofs.world.Ops.{typed-owned, words-pos, land, shell, end-box-top, reads, ended-under}
-use Rattle.soundness.proofs.world.Swap.{Wrote, writes, out-en}
-use Rattle.soundness.proofs.world.Lands.{land-mid}
-use Rattle.soundness.proofs.statics.Likes.{like-gone, fresh-like}
+use Rattle.soundness.proofs.loans.Stack.{push-own, push-inert, pop-borrows}
+use Rattle.soundness.proofs.invariant.Top.{typed-owned, words-pos, with-root, shell, end-box-top, reads, ended-under}
+use Rattle.soundness.proofs.invariant.Replace.{Wrote, writes, removed-entry}
+use Rattle.soundness.proofs.invariant.Rooting.{root-mid}
+use Rattle.soundness.proofs.statics.Exprs.{like-gone, fresh-like}
 use Rattle.soundness.proofs.statics.Rules.{there-is}
 use Rattle.soundness.proofs.statics.Scopes.{fresh-none}
-use Rattle.soundness.proofs.frames.Names.{entry-of}
-use Rattle.soundness.proofs.frames.Splits.{Swapped, move-name}
-use Rattle.soundness.proofs.Claims.{safe-need}
+use Rattle.soundness.proofs.frames.Names.{name-entry}
+use Rattle.soundness.proofs.frames.Moves.{Swapped, move-name}
+use Rattle.soundness.proofs.Safety.{safe-need}
 use Rattle.soundness.proofs.stmts.Stores.{typed-there}
 
 -- a box in flight, under the box that's to end: what's in it, in flight
-open-shell : (ds : List Data) (e : En) (N : List En) (r w : ℕ) (x : Tr) (t : Ty) (T : List Tr) (s : State) (v : Value) → e .at ≡ flying v → 1 ≤ w → Stored (s .roots) (bx r w x) → Typed ds x t → World ds (e ∷ N) (bx r w x ∷ T) s → World ds (shell r w ∷ (part-en x t ∷ N)) (void ∷ (x ∷ T)) s
+open-shell : (ds : List Data) (e : Entry) (N : List Entry) (r w : ℕ) (x : Tree) (t : Ty) (T : List Tree) (s : State) (v : Value) → e .at ≡ in-flight v → 1 ≤ w → Stored (s .roots) (box-t r w x) → Typed ds x t → Invariant ds (e ∷ N) (box-t r w x ∷ T) s → Invariant ds (shell r w ∷ (owned-entry x t ∷ N)) (hole-t ∷ (x ∷ T)) s
 open-shell ds e N r w x t T s v at-is le st ty wo = record {
-  sane = inert-on-top (own t ∷ shapes N) (own-on-top (shapes N) (off-top (e .sh) (shapes N) (wo .sane)) t);
+  borrows = push-inert (own t ∷ kinds N) (push-own (kinds N) (pop-borrows (e .kind) (kinds N) (wo .borrows)) t);
   fine = ((refl, (flat x, st .0, idle w le)), ((refl, st .1, typed-owned ds x t ty, inl ty), wo .fine .1));
-  weights = λ f. (let a = wo .weights f in let a2 : weigh-at f (e .at) ≡ 0 = ap (weigh-at f) at-is in omega arith);
+  sums = λ f. (let a = wo .sums f in let a2 : place-sum f (e .at) ≡ 0 = ap (place-sum f) at-is in omega arith);
   counted = wo .counted;
 }
   where
@@ -64,7 +64,7 @@ root-read s r v e = go (at-place (s .roots) r) e
     go (some x) e1 = (x, refl)
 
 -- what's in a box reads the same before its name's root was emptied
-box-reads : (ds : List Data) (s s2 : State) (r i w : ℕ) (v : Value) (x : Tr) (t : Ty) → read-at s (here r) ≡ some v → write-at s (here r) hole ≡ some s2 → Typed ds x t → at-place (s2 .roots) i ≡ some (record { live = true; val = flat x; words = w }) → read-at s (here i) ≡ some (flat x)
+box-reads : (ds : List Data) (s s2 : State) (r i w : ℕ) (v : Value) (x : Tree) (t : Ty) → read-at s (here r) ≡ some v → write-at s (here r) hole ≡ some s2 → Typed ds x t → at-place (s2 .roots) i ≡ some (record { live = true; val = flat x; words = w }) → read-at s (here i) ≡ some (flat x)
 box-reads ds s s2 r i w v x t rd wr ty at2 = reads s i (flat x) w (sym (wo .written .others i apart) ∙ at3)
   where
     wo : Wrote s (here r) hole
@@ -81,7 +81,7 @@ box-reads ds s s2 r i w v x t rd wr ty at2 = reads s i (flat x) w (sym (wo .writ
 
     apart : r ≡ i → ⊥
     apart e =
-        let a : record { live = true; val = hole; words = rr .0 .words } ≡ record { live = true; val = flat x; words = w } = some-is (sym (wo .written .there1 (rr .0) (rr .1)) ∙ ap (at-place (wo .s2 .roots)) e ∙ at3) in
+        let a : record { live = true; val = hole; words = rr .0 .words } ≡ record { live = true; val = flat x; words = w } = some-is (sym (wo .written .now-there (rr .0) (rr .1)) ∙ ap (at-place (wo .s2 .roots)) e ∙ at3) in
         let h : hole ≡ flat x = ap (λ (z : Root). z .val) a in
         no-some (ap me.there h ∙ typed-there ds x t ty)
 
@@ -92,21 +92,21 @@ boxed-is (box t) u e = ap box (some-is e)
 boxed-is (ref t) u e = absurd (no-some e)
 boxed-is (mut t) u e = absurd (no-some e)
 
-suits-owned : (u : Ty) (sh : Sh) → Suits (box u) sh → owned u ≡ true
-suits-owned u (own t) h = ap owned (h .0) ∙ h .1
-suits-owned u (pts true t a ls) h = absurd (let z : _≡_ {A = ℕ} 0 1 = cc in omega arith)
-suits-owned u (pts false t a ls) h = absurd (let z : _≡_ {A = ℕ} 0 1 = cc in omega arith)
-suits-owned u inert h = absurd h
+fits-owned : (u : Ty) (sh : Kind) → Kind-fits (box u) sh → owned u ≡ true
+fits-owned u (own t) h = ap owned (h .0) ∙ h .1
+fits-owned u (borrow true t a ls) h = absurd (let z : _≡_ {A = ℕ} 0 1 = cc in omega arith)
+fits-owned u (borrow false t a ls) h = absurd (let z : _≡_ {A = ℕ} 0 1 = cc in omega arith)
+fits-owned u inert h = absurd h
 
 -- a tree of a box's type
-pub is-box1 : (ds : List Data) (x : Tr) (u : Ty) → Typed ds x (box u) → (r : ℕ) × (w : ℕ) × (y : Tr) × (x ≡ bx r w y) × (1 ≤ w) × Typed ds y u
-is-box1 ds (num k) u ty = absurd ty
-is-box1 ds (con k ts) u ty = absurd ty
-is-box1 ds (bx r w y) u ty = (r, w, y, refl, subst (λ z. 1 ≤ z) (sym (ty .0)) (words-pos ds u), ty .1)
-is-box1 ds void u ty = absurd ty
+pub is-box1 : (ds : List Data) (x : Tree) (u : Ty) → Typed ds x (box u) → (r : ℕ) × (w : ℕ) × (y : Tree) × (x ≡ box-t r w y) × (1 ≤ w) × Typed ds y u
+is-box1 ds (int-t k) u ty = absurd ty
+is-box1 ds (con-t k ts) u ty = absurd ty
+is-box1 ds (box-t r w y) u ty = (r, w, y, refl, subst (λ z. 1 ≤ z) (sym (ty .0)) (words-pos ds u), ty .1)
+is-box1 ds hole-t u ty = absurd ty
 
 -- let x = open y
-pub open-step : (q : Prog) (m : Limits) (u : ℕ) (C : List En) (ln : List Ln) (g g2 : ch.Env) (d : me.Env) (F : List En) (T : List Tr) (s : State) (x y : Lexeme) → ch.stmt q g (open-s x y) ≡ some g2 → Scene C ln [] g d [] F → World (q .datas) (F ++ C) T s → Safe (After-exec q C ln g2 d (s .under)) (exec (suc u) m q d (open-s x y) s)
+pub open-step : (q : Prog) (m : Limits) (u : ℕ) (C : List Entry) (ln : List Level-loan) (g g2 : ch.Env) (d : me.Env) (F : List Entry) (T : List Tree) (s : State) (x y : Lexeme) → ch.stmt q g (open-s x y) ≡ some g2 → Frame C ln [] g d [] F → Invariant (q .datas) (F ++ C) T s → Safe (After-exec q C ln g2 d (s .under)) (exec (suc u) m q d (open-s x y) s)
 unfolding me.eval
 open-step q m u C ln g g2 d F T s x y e sc w =
     safe-need P s (root-of d y) f1 (sw .root) (sw .named)
@@ -155,9 +155,9 @@ open-step q m u C ln g g2 d F T s x y e sc w =
     ty-is = boxed-is (v .ty) tb (a2 .1)
 
     ow : owned tb ≡ true
-    ow = let en = entry-of C ln g d F y v (sc .names) (th .0) in suits-owned tb (en .en .sh) (subst (λ z. Suits z (en .en .sh)) ty-is (en .type))
+    ow = let en = name-entry C ln g d F y v (sc .names) (th .0) in fits-owned tb (en .en .kind) (subst (λ z. Kind-fits z (en .en .kind)) ty-is (en .type))
 
-    sw : Swapped (q .datas) C ln g d [] y v true void s
+    sw : Swapped (q .datas) C ln g d [] y v true hole-t s
     sw = move-name (q .datas) C ln [] g d [] F y v T s sc (th .0) (ap owned ty-is ∙ ow) (and-right (fresh g x) (is-free (all-loans g) y) (a3 .0)) w
 
     s2 : State
@@ -167,7 +167,7 @@ open-step q m u C ln g g2 d F T s x y e sc w =
     there1 (inl ty) = ty
     there1 (inr k) = absurd (true-false (sym (k .0) ∙ th .1))
 
-    bo : (r : ℕ) × (k : ℕ) × (z : Tr) × (sw .old ≡ bx r k z) × (1 ≤ k) × Typed (q .datas) z tb
+    bo : (r : ℕ) × (k : ℕ) × (z : Tree) × (sw .old ≡ box-t r k z) × (1 ≤ k) × Typed (q .datas) z tb
     bo = is-box1 (q .datas) (sw .old) tb (subst (Typed (q .datas) (sw .old)) ty-is (there1 (sw .content)))
 
     i : ℕ
@@ -176,17 +176,17 @@ open-step q m u C ln g g2 d F T s x y e sc w =
     wd : ℕ
     wd = bo .1
 
-    cont : Tr
+    cont : Tree
     cont = bo .2
 
-    st : Stored (s2 .roots) (bx i wd cont)
+    st : Stored (s2 .roots) (box-t i wd cont)
     st = subst (Stored (s2 .roots)) (bo .3) (sw .stored)
 
-    w1 : World (q .datas) (out-en (sw .old) (v .gone) (v .ty) ∷ (sw .F ++ C)) (bx i wd cont ∷ sw .T) s2
-    w1 = subst (λ z. World (q .datas) (out-en (sw .old) (v .gone) (v .ty) ∷ (sw .F ++ C)) (z ∷ sw .T) s2) (bo .3) (sw .world)
+    w1 : Invariant (q .datas) (removed-entry (sw .old) (v .gone) (v .ty) ∷ (sw .F ++ C)) (box-t i wd cont ∷ sw .T) s2
+    w1 = subst (λ z. Invariant (q .datas) (removed-entry (sw .old) (v .gone) (v .ty) ∷ (sw .F ++ C)) (z ∷ sw .T) s2) (bo .3) (sw .world)
 
-    w2 : (U : List Tr) × World (q .datas) (part-en cont tb ∷ (sw .F ++ C)) U (ends-box s2 i)
-    w2 = end-box-top (q .datas) (part-en cont tb ∷ (sw .F ++ C)) i wd (void ∷ (cont ∷ sw .T)) s2 (bo .4) (open-shell (q .datas) (out-en (sw .old) (v .gone) (v .ty)) (sw .F ++ C) i wd cont tb (sw .T) s2 (flat (sw .old)) refl (bo .4) st (bo .5) w1)
+    w2 : (U : List Tree) × Invariant (q .datas) (owned-entry cont tb ∷ (sw .F ++ C)) U (ends-box s2 i)
+    w2 = end-box-top (q .datas) (owned-entry cont tb ∷ (sw .F ++ C)) i wd (hole-t ∷ (cont ∷ sw .T)) s2 (bo .4) (open-shell (q .datas) (removed-entry (sw .old) (v .gone) (v .ty)) (sw .F ++ C) i wd cont tb (sw .T) s2 (flat (sw .old)) refl (bo .4) st (bo .5) w1)
 
     s3 : State
     s3 = ends-box s2 i
@@ -195,10 +195,10 @@ open-step q m u C ln g g2 d F T s x y e sc w =
     after = record {
       newer = record { name = x; root = length (s2 .roots) } ∷ [];
       grown = refl;
-      F = land (part-en cont tb) (length (s3 .roots)) ∷ sw .F;
+      F = with-root (owned-entry cont tb) (length (s3 .roots)) ∷ sw .F;
       T = w2 .0;
-      names = subst (λ z. Match (length C) ln z (record { name = x; root = length (s2 .roots) } ∷ d) (land (part-en cont tb) (length (s3 .roots)) ∷ sw .F)) (some-is (a3 .1))
+      names = subst (λ z. Scope (length C) ln z (record { name = x; root = length (s2 .roots) } ∷ d) (with-root (owned-entry cont tb) (length (s3 .roots)) ∷ sw .F)) (some-is (a3 .1))
           (record { name = refl; place = ap (λ z. rooted z 0) (ended-length s2 i); flag = refl; type = (refl, ow); loans = λ l k. absurd k; fresh = fresh-like g (set-gone true g y) x (like-gone true g y) (fresh-none g x (and-left (fresh g x) (is-free (all-loans g) y) (a3 .0))) }, sw .names);
-      world = land-mid (q .datas) [] (part-en cont tb) (flat cont) (sw .F ++ C) (w2 .0) s3 refl (w2 .1);
+      world = root-mid (q .datas) [] (owned-entry cont tb) (flat cont) (sw .F ++ C) (w2 .0) s3 refl (w2 .1);
       under = ended-under s2 i ∙ sw .under;
     }
