@@ -32,7 +32,8 @@ pub order-case : (i j : ℕ) → (i < j) ⊎ ((i ≡ j) ⊎ (j < i))
 order-case zero zero = inr (inl refl)
 order-case zero (suc j) = inl (omega arith)
 order-case (suc i) zero = inr (inr (omega arith))
-order-case (suc i) (suc j) = elim (order-case i j) [ inl h ↦ inl (omega arith) | inr h ↦ elim h [ inl k ↦ inr (inl (ap suc k)) | inr k ↦ inr (inr (omega arith)) ] ]
+order-case (suc i) (suc j) =
+    elim (order-case i j) [ inl h ↦ inl (omega arith) | inr h ↦ elim h [ inl k ↦ inr (inl (ap suc k)) | inr k ↦ inr (inr (omega arith)) ] ]
 
 pub only-is : {A : Type 0} (z : Bool) (y : Option A) (r : A) → only-if z y ≡ some r → (z ≡ true) × (y ≡ some r)
 only-is true y r e = (refl, e)
@@ -72,7 +73,8 @@ pub same-is : (x y : Lexeme) → same x y ≡ true → x ≡ y
 same-is [] [] e = refl
 same-is [] (y ∷ ys) e = absurd (true-false (sym e))
 same-is (x ∷ xs) [] e = absurd (true-false (sym e))
-same-is (x ∷ xs) (y ∷ ys) e = let a : x ≡ y = eqb→eq x y (T-of (and-left (eqb x y) (same xs ys) e)) in let k = same-is xs ys (and-right (eqb x y) (same xs ys) e) in cc
+same-is (x ∷ xs) (y ∷ ys) e =
+    let a : x ≡ y = eqb→eq x y (T-of (and-left (eqb x y) (same xs ys) e)) in let k = same-is xs ys (and-right (eqb x y) (same xs ys) e) in cc
 
 pub same-self : (x : Lexeme) → same x x ≡ true
 same-self [] = refl

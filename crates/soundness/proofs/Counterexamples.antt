@@ -67,7 +67,12 @@ prints = cons-s (put-s (load w-k)) nil-s
 
 -- value: free. let a = D(1); let r = &a; let b = a; then r is looked at: a value moves while it's lent
 moved : Prog
-moved = record { datas = a-data ∷ []; funs = a-main (cons-s (bind w-a a-d) (cons-s (bind w-r (share w-a)) (cons-s (bind w-b (var w-a)) (cons-s (looks w-r prints) nil-s)))) ∷ [] }
+moved =
+    record {
+      datas = a-data ∷ [];
+      funs = a-main
+          (cons-s (bind w-a a-d) (cons-s (bind w-r (share w-a)) (cons-s (bind w-b (var w-a)) (cons-s (looks w-r prints) nil-s)))) ∷ [];
+    }
 
 moved-refused : checks.accepts moved ≡ false
 unfolding moved
@@ -79,7 +84,12 @@ moved-wrong = refl
 
 -- assign: free. let a = D(1); match view a { D(k) => a = N; print *k }: what's lent is assigned
 assigned : Prog
-assigned = record { datas = a-data ∷ []; funs = a-main (cons-s (bind w-a a-d) (cons-s (looks w-a (cons-s (assign w-a (ctor w-N nil-e)) prints)) nil-s)) ∷ [] }
+assigned =
+    record {
+      datas = a-data ∷ [];
+      funs = a-main
+          (cons-s (bind w-a a-d) (cons-s (looks w-a (cons-s (assign w-a (ctor w-N nil-e)) prints)) nil-s)) ∷ [];
+    }
 
 assigned-refused : checks.accepts assigned ≡ false
 unfolding assigned
@@ -103,7 +113,17 @@ again-wrong = refl
 
 -- give: from-caller. fn f(a: t): ref t { give &a }; let r = f(D(1)): the name has ended
 given : Prog
-given = record { datas = a-data ∷ []; funs = record { name = w-f; pars = record { name = w-a; ty = dat w-t } ∷ []; ret = ref (dat w-t); does = body nil-s (give (share w-a)) } ∷ a-main (cons-s (bind w-r (call w-f (cons-e a-d nil-e))) (cons-s (looks w-r prints) nil-s)) ∷ [] }
+given =
+    record {
+      datas = a-data ∷ [];
+      funs = record {
+        name = w-f;
+        pars = record { name = w-a; ty = dat w-t } ∷ [];
+        ret = ref (dat w-t);
+        does = body nil-s
+            (give (share w-a));
+      } ∷ a-main (cons-s (bind w-r (call w-f (cons-e a-d nil-e))) (cons-s (looks w-r prints) nil-s)) ∷ [];
+    }
 
 given-refused : checks.accepts given ≡ false
 unfolding given
@@ -115,7 +135,18 @@ given-wrong = refl
 
 -- call: the loans of all arguments. fn f(a: ref t): ref t { give a }; let r = f(&a); let b = a: what the call gave holds the argument's loan
 called : Prog
-called = record { datas = a-data ∷ []; funs = record { name = w-f; pars = record { name = w-a; ty = ref (dat w-t) } ∷ []; ret = ref (dat w-t); does = body nil-s (give (var w-a)) } ∷ a-main (cons-s (bind w-a a-d) (cons-s (bind w-r (call w-f (cons-e (share w-a) nil-e))) (cons-s (bind w-b (var w-a)) (cons-s (looks w-r prints) nil-s)))) ∷ [] }
+called =
+    record {
+      datas = a-data ∷ [];
+      funs = record {
+        name = w-f;
+        pars = record { name = w-a; ty = ref (dat w-t) } ∷ [];
+        ret = ref (dat w-t);
+        does = body nil-s (give (var w-a));
+      } ∷ a-main
+          (cons-s (bind w-a a-d) (cons-s (bind w-r (call w-f (cons-e (share w-a) nil-e)))
+          (cons-s (bind w-b (var w-a)) (cons-s (looks w-r prints) nil-s)))) ∷ [];
+    }
 
 called-refused : checks.accepts called ≡ false
 unfolding called

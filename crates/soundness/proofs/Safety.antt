@@ -16,22 +16,36 @@ use Rattle.soundness.specs.Invariant.{Entry}
 use Rattle.soundness.specs.Preserved.{After-exec, Preserved, Safe}
 use Rattle.soundness.proofs.invariant.Flags.{Weaker, with-flags, weak-frame}
 
-pub safe-then : {A C : Type 0} (P : A → State → Type 0) (Q : C → State → Type 0) (r : Res A) (f : A → State → Res C) → Safe P r → ((a : A) (s : State) → P a s → Safe Q (f a s)) → Safe Q (then r f)
+pub safe-then : {A C : Type 0} (P : A → State → Type 0) (Q : C → State → Type 0) (r : Res A) (f : A → State → Res C) → Safe P r
+    → ((a : A) (s : State) → P a s → Safe Q (f a s)) → Safe Q (then r f)
 unfolding then
 safe-then P Q (me.ok a s) f h k = k a s h
 safe-then P Q (stop x s) f h k = h
 
-pub safe-need : {A C : Type 0} (Q : C → State → Type 0) (s : State) (o : Option A) (f : A → Res C) (x : A) → o ≡ some x → Safe Q (f x) → Safe Q (need s o f)
+pub safe-need : {A C : Type 0} (Q : C → State → Type 0) (s : State) (o : Option A) (f : A → Res C) (x : A) → o ≡ some x → Safe Q (f x)
+    → Safe Q (need s o f)
 unfolding need
 safe-need Q s o f x e h = subst (λ z. Safe Q (need s z f)) (sym e) h
 
-pub safe-turn : {C : Type 0} (Q : C → State → Type 0) (m : Limits) (s : State) (f : State → Res C) → Safe Q (f (record { roots = s .roots; classes = s .classes; under = s .under; turns = suc (s .turns); ins = s .ins; outs = s .outs })) → Safe Q (turn m s f)
+pub safe-turn : {C : Type 0} (Q : C → State → Type 0) (m : Limits) (s : State) (f : State → Res C)
+    → Safe Q (f (record { roots = s .roots; classes = s .classes; under = s .under; turns = suc (s .turns); ins = s .ins; outs = s .outs }))
+    → Safe Q (turn m s f)
 unfolding turn
-safe-turn Q m s f h = elim (ltb (s .turns) (m .max-turns)) as (λ z. Safe Q (choose z (f (record { roots = s .roots; classes = s .classes; under = s .under; turns = suc (s .turns); ins = s .ins; outs = s .outs })) (stop no-turns s))) [ true ↦ h | false ↦ tt ]
+safe-turn Q m s f h =
+    elim (ltb (s .turns) (m .max-turns)) as (λ z. Safe Q
+    (choose z (f (record { roots = s .roots; classes = s .classes; under = s .under; turns = suc (s .turns); ins = s .ins; outs = s .outs }))
+    (stop no-turns s))) [ true ↦ h | false ↦ tt ]
 
-pub safe-under : {C : Type 0} (P Q : C → State → Type 0) (m : Limits) (k : ℕ) (s : State) (f : State → Res C) → Safe P (f (with-under s (s .under + k))) → ((a : C) (t : State) → P a t → Q a (with-under t (s .under))) → Safe Q (goes-under m k s f)
+pub safe-under : {C : Type 0} (P Q : C → State → Type 0) (m : Limits) (k : ℕ) (s : State) (f : State → Res C)
+    → Safe P (f (with-under s (s .under + k))) → ((a : C) (t : State) → P a t → Q a (with-under t (s .under))) → Safe Q (goes-under m k s f)
 unfolding goes-under
-safe-under P Q m k s f h g = elim (leb (s .under + k) (m .stack)) as (λ z. Safe Q (choose z (then (f (with-under s (s .under + k))) (λ a t. me.ok a (with-under t (s .under)))) (stop no-stack s))) [ true ↦ safe-then P Q (f (with-under s (s .under + k))) (λ a t. me.ok a (with-under t (s .under))) h g | false ↦ tt ]
+safe-under P Q m k s f h g =
+    elim (leb (s .under + k) (m .stack)) as (λ z. Safe Q
+    (choose z (then (f (with-under s (s .under + k))) (λ a t. me.ok a (with-under t (s .under)))) (stop no-stack s))) [
+      | true ↦ safe-then P Q
+          (f (with-under s (s .under + k))) (λ a t. me.ok a (with-under t (s .under))) h g
+      | false ↦ tt
+    ]
 
 -- no fuel: late, which isn't wrong
 pub preserved-zero : (q : Prog) (m : Limits) → Preserved q m zero
@@ -54,7 +68,8 @@ preserved-zero q m = record {
   drops-all-ok = λ K N T s vs f w. tt;
 }
 
-pub safe-choose : {C : Type 0} (Q : C → State → Type 0) (z : Bool) (x y : Res C) → (z ≡ true → Safe Q x) → (z ≡ false → Safe Q y) → Safe Q (choose z x y)
+pub safe-choose : {C : Type 0} (Q : C → State → Type 0) (z : Bool) (x y : Res C) → (z ≡ true → Safe Q x) → (z ≡ false → Safe Q y)
+    → Safe Q (choose z x y)
 safe-choose Q true x y f g = f refl
 safe-choose Q false x y f g = g refl
 
@@ -63,7 +78,8 @@ safe-weaken P Q (me.ok a s) f h = f a s h
 safe-weaken P Q (stop k s) f h = h
 
 -- the same with more flags
-pub after-weak : (q : Prog) (C : List Entry) (ln : List Level-loan) (g h : ch.Env) (d : me.Env) (k : ℕ) (d2 : me.Env) (s : State) → Weaker g h → After-exec q C ln g d k d2 s → After-exec q C ln h d k d2 s
+pub after-weak : (q : Prog) (C : List Entry) (ln : List Level-loan) (g h : ch.Env) (d : me.Env) (k : ℕ) (d2 : me.Env) (s : State) → Weaker g h
+    → After-exec q C ln g d k d2 s → After-exec q C ln h d k d2 s
 after-weak q C ln g h d k d2 s wk a =
     let r = weak-frame (q .datas) (length C) ln g h d2 [] (a .F) C (a .T) s wk (a .names) (a .world) in
     record { newer = a .newer; grown = a .grown; F = with-flags h (a .F); T = a .T; names = r .0; world = r .1; under = a .under }

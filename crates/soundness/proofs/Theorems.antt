@@ -57,12 +57,25 @@ no-pars : (ps : List Param) → eqb (length ps) 0 ≡ true → types-of-pars ps 
 no-pars [] e = refl
 no-pars (x ∷ ps) e = absurd (true-false (sym e ∙ lib.Dec.eqb·suc-zero (length ps)))
 
-main-fn : (q : Prog) (o : Option Fn) → from-option o false ch.is-main ≡ true → (f : Fn) × (o ≡ some f) × (types-of-pars (f .pars) ≡ []) × (f .ret ≡ int)
+main-fn : (q : Prog) (o : Option Fn) → from-option o false ch.is-main ≡ true
+    → (f : Fn) × (o ≡ some f) × (types-of-pars (f .pars) ≡ []) × (f .ret ≡ int)
 main-fn q none e = absurd (true-false (sym e))
-main-fn q (some f) e = (f, refl, no-pars (f .pars) (and-left (eqb (length (f .pars)) 0) (same-ty (f .ret) int) e), same-ty-is (f .ret) int (and-right (eqb (length (f .pars)) 0) (same-ty (f .ret) int) e))
+main-fn q (some f) e = (
+  f,
+  refl,
+  no-pars (f .pars) (and-left (eqb (length (f .pars)) 0) (same-ty (f .ret) int) e),
+  same-ty-is (f .ret) int
+      (and-right (eqb (length (f .pars)) 0) (same-ty (f .ret) int) e),
+)
 
 first-world : (q : Prog) (ins : List ℕ) → Invariant (q .datas) [] [] (blank ins)
-first-world q ins = record { borrows = record { exclusivity = tt; anchored = tt }; fine = tt; sums = λ f. refl; counted = record { by-size = λ k. refl; in-all = refl } }
+first-world q ins =
+    record {
+      borrows = record { exclusivity = tt; anchored = tt };
+      fine = tt;
+      sums = λ f. refl;
+      counted = record { by-size = λ k. refl; in-all = refl };
+    }
 
 pub run-ok : Run-safe
 unfolding need
@@ -70,7 +83,8 @@ run-ok u m q ins o =
     let mn = main-fn q (fn-named (q .funs) ch.w-main) (okay q o .main1) in
     subst (λ z. Safe (After-call q [] [] int 0) (need (blank ins) z (λ f. calls u m q f [] (blank ins)))) (sym (mn .1))
     (subst (λ z. Safe (After-call q [] [] z 0) (calls u m q (mn .0) [] (blank ins))) (mn .3)
-    (preserved q m o u .calls-ok [] [] [] (blank ins) (mn .0) me.nil-v (fns-ok q o ch.w-main (mn .0) (mn .1)) (subst (λ z. Arguments [] z me.nil-v) (sym (mn .2)) no-args) (λ l i. absurd i) (first-world q ins)))
+    (preserved q m o u .calls-ok [] [] [] (blank ins) (mn .0) me.nil-v (fns-ok q o ch.w-main (mn .0) (mn .1))
+    (subst (λ z. Arguments [] z me.nil-v) (sym (mn .2)) no-args) (λ l i. absurd i) (first-world q ins)))
 
 pub never-wrong : «Never-wrong»
 never-wrong u m q ins s o e = subst (Safe (After-call q [] [] int 0)) e (run-ok u m q ins o)

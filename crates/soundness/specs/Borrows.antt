@@ -73,7 +73,9 @@ Pairwise N i x a y d = Comparable a d → ((exclusive x ≡ false) × (exclusive
 
 abbrev pub Exclusivity : List Kind → Type 0
 Exclusivity [] = Unit {0}
-Exclusivity (y ∷ N) = ((d : Addr) → addr-of (length N) y ≡ some d → (i : ℕ) (x : Kind) (a : Addr) → at-level N i ≡ some x → addr-of i x ≡ some a → Pairwise (y ∷ N) i x a y d) × Exclusivity N
+Exclusivity (y ∷ N) =
+    ((d : Addr) → addr-of (length N) y ≡ some d → (i : ℕ) (x : Kind) (a : Addr) → at-level N i ≡ some x → addr-of i x ≡ some a
+    → Pairwise (y ∷ N) i x a y d) × Exclusivity N
 
 -- L: a reference's loans are of older ones, one of them in the same cell; and that's owned
 abbrev pub owner-at : List Kind → ℕ → Option ℕ
@@ -81,7 +83,9 @@ owner-at N i = if-some (at-level N i) (λ x. if-some (addr-of i x) (λ a. some (
 
 abbrev pub Anchored1 : List Kind → Kind → Type 0
 Anchored1 N (own t) = Unit {0}
-Anchored1 N (borrow x t a ls) = ((l : Level-loan) → In l ls → l .level < length N) × ((l : Level-loan) × In l ls × (owner-at N (l .level) ≡ some (a .owner))) × ((u : Ty) × (at-level N (a .owner) ≡ some (own u)))
+Anchored1 N (borrow x t a ls) =
+    ((l : Level-loan) → In l ls → l .level < length N) × ((l : Level-loan) × In l ls × (owner-at N (l .level) ≡ some (a .owner)))
+    × ((u : Ty) × (at-level N (a .owner) ≡ some (own u)))
 Anchored1 N inert = Unit {0}
 
 abbrev pub Anchored : List Kind → Type 0

@@ -24,7 +24,8 @@ name-level base (v ∷ vs) x = choose (same (v .name) x) (some (length vs + base
 
 -- each loan is the caller's, or is among the static ones, under its name
 abbrev pub Loans-cover : ℕ → List Level-loan → ch.Env → List Loan → List Level-loan → Type 0
-Loans-cover base lend g ls L = (l : Level-loan) → In l L → In l lend ⊎ ((x : Lexeme) × (name-level base g x ≡ some (l .level)) × In (loan x (l .alone)) ls)
+Loans-cover base lend g ls L =
+    (l : Level-loan) → In l L → In l lend ⊎ ((x : Lexeme) × (name-level base g x ≡ some (l .level)) × In (loan x (l .alone)) ls)
 
 abbrev pub Kind-fits : Ty → Kind → Type 0
 Kind-fits t (own u) = (t ≡ u) × (owned u ≡ true)
@@ -61,7 +62,8 @@ all-loans-of (e ∷ N) = loans-of (e .kind) ++ all-loans-of N
 -- arguments in flight, the newest first: their types and values from the first on
 pub data Arguments : List Entry → List Ty → Values → Type 0 where
   no-args : Arguments [] [] nil-v
-  snoc-arg : {A : List Entry} {ts : List Ty} {vs : Values} (e : Entry) (t : Ty) (v : Value) → Arguments A ts vs → Value-entry v t e → Arguments (e ∷ A) (ts ++ (t ∷ [])) (append vs v)
+  snoc-arg : {A : List Entry} {ts : List Ty} {vs : Values} (e : Entry) (t : Ty) (v : Value) → Arguments A ts vs → Value-entry v t e
+      → Arguments (e ∷ A) (ts ++ (t ∷ [])) (append vs v)
 
 -- entries that are there to be ended, by the meaning's names; and such that nobody points from
 abbrev pub Roots-named : me.Env → List Entry → Type 0

@@ -96,15 +96,19 @@ Behind V P (stop k s) = P s
 -- what every function of the meaning keeps, at fuel u: P of the state, and L of the numbers of what is given
 pub record Numbers-kept (L : ℕ → Type 0) (P : State → Type 0) (q : Prog) (m : Limits) (u : ℕ) : Type 0 where
   pub by-eval : (g : Env) (e : Expr) (s : State) → Literals-e L e → P s → Behind (Numbers L) P (eval u m q g e s)
-  pub by-evals : (g : Env) (es : Exprs) (vs : Values) (s : State) → Literals-es L es → Numbers-of L vs → P s → Behind (Numbers-of L) P (evals u m q g es vs s)
-  pub by-calls : (f : Fn) (vs : List Value) (s : State) → Literals-body L (f .does) → Every (Numbers L) vs → P s → Behind (Numbers L) P (calls u m q f vs s)
+  pub by-evals : (g : Env) (es : Exprs) (vs : Values) (s : State) → Literals-es L es → Numbers-of L vs → P s
+      → Behind (Numbers-of L) P (evals u m q g es vs s)
+  pub by-calls : (f : Fn) (vs : List Value) (s : State) → Literals-body L (f .does) → Every (Numbers L) vs → P s
+      → Behind (Numbers L) P (calls u m q f vs s)
   pub by-bodies : (g h : Env) (d : Body) (s : State) → Literals-body L d → P s → Behind (Numbers L) P (bodies u m q g h d s)
   pub by-tails : (g : Env) (t : Tail) (s : State) → Literals-tail L t → P s → Behind (Numbers L) P (tails u m q g t s)
-  pub by-arms : (g : Env) (w : Access) (l : Loc) (as₁ : Arms) (y : Shape) (s : State) → Literals-arms L as₁ → Shape-numbers L y → P s → Behind (Numbers L) P (by-shape u m q g w l as₁ y s)
+  pub by-arms : (g : Env) (w : Access) (l : Loc) (as₁ : Arms) (y : Shape) (s : State) → Literals-arms L as₁ → Shape-numbers L y → P s
+      → Behind (Numbers L) P (by-shape u m q g w l as₁ y s)
   pub by-execs : (g : Env) (ss : Stmts) (s : State) → Literals-ss L ss → P s → Behind (λ _. Unit {0}) P (execs u m q g ss s)
   pub by-block : (g h : Env) (ss : Stmts) (s : State) → Literals-ss L ss → P s → Behind (λ _. Unit {0}) P (block u m q g h ss s)
   pub by-exec : (g : Env) (x : Stmt) (s : State) → Literals-s L x → P s → Behind (λ _. Unit {0}) P (exec u m q g x s)
-  pub by-alts : (g : Env) (w : Access) (l : Loc) (as₁ : Alts) (y : Shape) (s : State) → Literals-alts L as₁ → Shape-numbers L y → P s → Behind (λ _. Unit {0}) P (by-alt u m q g w l as₁ y s)
+  pub by-alts : (g : Env) (w : Access) (l : Loc) (as₁ : Alts) (y : Shape) (s : State) → Literals-alts L as₁ → Shape-numbers L y → P s
+      → Behind (λ _. Unit {0}) P (by-alt u m q g w l as₁ y s)
   pub by-ends : (g : Env) (s : State) → P s → Behind (λ _. Unit {0}) P (ends u m q g s)
   pub by-drops : (v : Value) (s : State) → Numbers L v → P s → Behind (λ _. Unit {0}) P (drops u m q v s)
   pub by-lasts : (f : Fn) (v : Value) (s : State) → Literals-body L (f .does) → Numbers L v → P s → Behind (λ _. Unit {0}) P (lasts u m q f v s)
@@ -123,7 +127,9 @@ abbrev pub Words-kept : Type 0
 Words-kept = (text : List ℕ) (q : Prog) → reads text ≡ some q → (m : Limits) (u : ℕ) → Numbers-kept Word (State-numbers Word (Every Shown)) q m u
 
 abbrev pub Shown-small : Type 0
-Shown-small = (text : List ℕ) (q : Prog) → reads text ≡ some q → (u : ℕ) (m : Limits) (ins : List ℕ) → Behind (Numbers Word) (λ s. Every Shown (s .outs)) (run u m q ins)
+Shown-small =
+    (text : List ℕ) (q : Prog) → reads text ≡ some q → (u : ℕ) (m : Limits) (ins : List ℕ)
+    → Behind (Numbers Word) (λ s. Every Shown (s .outs)) (run u m q ins)
 
 -- WHAT IS SHOWN ONLY GROWS, for every program, from every state, also where a run stops
 abbrev pub outs-behind : {A : Type 0} → Res A → List ℕ

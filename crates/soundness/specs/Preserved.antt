@@ -29,7 +29,8 @@ Safe P (me.ok a s) = P a s
 Safe P (stop k s) = Not-wrong k
 
 -- what's there behind an expression: the value's entry on top, and the frame's with the flags of the names behind it; all that's under the frame is the same
-pub record After-eval (q : Prog) (C : List Entry) (lent1 : List Level-loan) (d : me.Env) (H : List Entry) (r : ch.Typed) (k : ℕ) (v : Value) (s : State) : Type 0 where
+pub record After-eval (q : Prog) (C : List Entry) (lent1 : List Level-loan) (d : me.Env) (H : List Entry) (r : ch.Typed) (k : ℕ) (v : Value)
+    (s : State) : Type 0 where
   pub top : Entry
   pub F : List Entry
   pub T : List Tree
@@ -39,7 +40,8 @@ pub record After-eval (q : Prog) (C : List Entry) (lent1 : List Level-loan) (d :
   pub world : Invariant (q .datas) (top ∷ (H ++ (F ++ C))) T s
   pub under : s .under ≡ k
 
-pub record After-args (q : Prog) (C : List Entry) (lent1 : List Level-loan) (d : me.Env) (A H : List Entry) (ts : List Ty) (r : ch.Typed) (k : ℕ) (vs : Values) (s : State) : Type 0 where
+pub record After-args (q : Prog) (C : List Entry) (lent1 : List Level-loan) (d : me.Env) (A H : List Entry) (ts : List Ty) (r : ch.Typed) (k : ℕ)
+    (vs : Values) (s : State) : Type 0 where
   pub K : List Entry
   pub F : List Entry
   pub T : List Tree
@@ -99,51 +101,96 @@ pub record Scrutinee (d : me.Env) (x : Lexeme) (l : Loc) (y : Shape) (s : State)
 
 module _ (q : Prog) (m : Limits) where
   abbrev pub Eval-ok : ℕ → Type 0
-  Eval-ok u = (C : List Entry) (ln : List Level-loan) (held : List Loan) (g : ch.Env) (d : me.Env) (H F : List Entry) (T : List Tree) (s : State) (e : Expr) (r : ch.Typed) → ch.expr q held g e ≡ some r → Frame C ln held g d H F → Invariant (q .datas) (H ++ (F ++ C)) T s → Safe (After-eval q C ln d H r (s .under)) (eval u m q d e s)
+  Eval-ok u =
+      (C : List Entry) (ln : List Level-loan) (held : List Loan) (g : ch.Env) (d : me.Env) (H F : List Entry) (T : List Tree) (s : State) (e : Expr)
+      (r : ch.Typed) → ch.expr q held g e ≡ some r → Frame C ln held g d H F → Invariant (q .datas) (H ++ (F ++ C)) T s
+      → Safe (After-eval q C ln d H r (s .under)) (eval u m q d e s)
 
   abbrev pub Evals-ok : ℕ → Type 0
-  Evals-ok u = (C : List Entry) (ln : List Level-loan) (held : List Loan) (g : ch.Env) (d : me.Env) (A H F : List Entry) (T : List Tree) (s : State) (es : Exprs) (us ts : List Ty) (vs : Values) (r : ch.Typed) → ch.args q held g es ts ≡ some r → Arguments A us vs → Frame C ln held g d (A ++ H) F → Invariant (q .datas) ((A ++ H) ++ (F ++ C)) T s → Safe (After-args q C ln d A H (us ++ ts) r (s .under)) (evals u m q d es vs s)
+  Evals-ok u =
+      (C : List Entry) (ln : List Level-loan) (held : List Loan) (g : ch.Env) (d : me.Env) (A H F : List Entry) (T : List Tree) (s : State)
+      (es : Exprs) (us ts : List Ty) (vs : Values) (r : ch.Typed) → ch.args q held g es ts ≡ some r → Arguments A us vs
+      → Frame C ln held g d (A ++ H) F → Invariant (q .datas) ((A ++ H) ++ (F ++ C)) T s
+      → Safe (After-args q C ln d A H (us ++ ts) r (s .under)) (evals u m q d es vs s)
 
   abbrev pub Calls-ok : ℕ → Type 0
-  Calls-ok u = (C A : List Entry) (T : List Tree) (s : State) (f : Fn) (vs : Values) → ok-fn q f ≡ true → Arguments A (types-of-pars (f .pars)) vs → ((l : Level-loan) → In l (all-loans-of A) → l .level < length C) → Invariant (q .datas) (A ++ C) T s → Safe (After-call q C A (f .ret) (s .under)) (calls u m q f (list-of vs) s)
+  Calls-ok u =
+      (C A : List Entry) (T : List Tree) (s : State) (f : Fn) (vs : Values) → ok-fn q f ≡ true → Arguments A (types-of-pars (f .pars)) vs
+      → ((l : Level-loan) → In l (all-loans-of A) → l .level < length C) → Invariant (q .datas) (A ++ C) T s
+      → Safe (After-call q C A (f .ret) (s .under)) (calls u m q f (list-of vs) s)
 
   abbrev pub Bodies-ok : ℕ → Type 0
-  Bodies-ok u = (C : List Entry) (ln : List Level-loan) (g : ch.Env) (d k h : me.Env) (F : List Entry) (T : List Tree) (s : State) (qs : List Lexeme) (t : Ty) (x : Body) → ch.is-body q qs t g x ≡ true → Ref-params qs g → d ≡ k ++ h → Frame C ln [] g d [] F → Invariant (q .datas) (F ++ C) T s → Safe (After-give q C ln h t (s .under)) (bodies u m q d h x s)
+  Bodies-ok u =
+      (C : List Entry) (ln : List Level-loan) (g : ch.Env) (d k h : me.Env) (F : List Entry) (T : List Tree) (s : State) (qs : List Lexeme) (t : Ty)
+      (x : Body) → ch.is-body q qs t g x ≡ true → Ref-params qs g → d ≡ k ++ h → Frame C ln [] g d [] F → Invariant (q .datas) (F ++ C) T s
+      → Safe (After-give q C ln h t (s .under)) (bodies u m q d h x s)
 
   abbrev pub Tails-ok : ℕ → Type 0
-  Tails-ok u = (C : List Entry) (ln : List Level-loan) (g : ch.Env) (d : me.Env) (F : List Entry) (T : List Tree) (s : State) (qs : List Lexeme) (t : Ty) (x : Tail) → ch.is-tail q qs t g x ≡ true → Ref-params qs g → Frame C ln [] g d [] F → Invariant (q .datas) (F ++ C) T s → Safe (After-give q C ln d t (s .under)) (tails u m q d x s)
+  Tails-ok u =
+      (C : List Entry) (ln : List Level-loan) (g : ch.Env) (d : me.Env) (F : List Entry) (T : List Tree) (s : State) (qs : List Lexeme) (t : Ty)
+      (x : Tail) → ch.is-tail q qs t g x ≡ true → Ref-params qs g → Frame C ln [] g d [] F → Invariant (q .datas) (F ++ C) T s
+      → Safe (After-give q C ln d t (s .under)) (tails u m q d x s)
 
   abbrev pub By-shape-ok : ℕ → Type 0
-  By-shape-ok u = (C : List Entry) (ln : List Level-loan) (g : ch.Env) (d : me.Env) (F : List Entry) (T : List Tree) (s : State) (qs : List Lexeme) (t : Ty) (w : Access) (x : Lexeme) (v : Var) (mm : Matched) (as₁ : Arms) (l : Loc) (y : Shape) → ch.there g x ≡ some v → ch.looks-at q g v w (v .ty) ≡ some mm → ch.covers (mm .data1) (ch.arm-names as₁) ≡ true → ch.are-arms q qs t (mm .env) w (mm .loans) (mm .data1) as₁ ≡ true → Ref-params qs g → Scrutinee d x l y s → Frame C ln [] g d [] F → Invariant (q .datas) (F ++ C) T s → Safe (After-give q C ln d t (s .under)) (by-shape u m q d w l as₁ y s)
+  By-shape-ok u =
+      (C : List Entry) (ln : List Level-loan) (g : ch.Env) (d : me.Env) (F : List Entry) (T : List Tree) (s : State) (qs : List Lexeme) (t : Ty)
+      (w : Access) (x : Lexeme) (v : Var) (mm : Matched) (as₁ : Arms) (l : Loc) (y : Shape) → ch.there g x ≡ some v
+      → ch.looks-at q g v w (v .ty) ≡ some mm → ch.covers (mm .data1) (ch.arm-names as₁) ≡ true
+      → ch.are-arms q qs t (mm .env) w (mm .loans) (mm .data1) as₁ ≡ true → Ref-params qs g → Scrutinee d x l y s → Frame C ln [] g d [] F
+      → Invariant (q .datas) (F ++ C) T s → Safe (After-give q C ln d t (s .under)) (by-shape u m q d w l as₁ y s)
 
   abbrev pub Execs-ok : ℕ → Type 0
-  Execs-ok u = (C : List Entry) (ln : List Level-loan) (g g2 : ch.Env) (d : me.Env) (F : List Entry) (T : List Tree) (s : State) (x : Stmts) → ch.stmts q g x ≡ some g2 → Frame C ln [] g d [] F → Invariant (q .datas) (F ++ C) T s → Safe (After-exec q C ln g2 d (s .under)) (execs u m q d x s)
+  Execs-ok u =
+      (C : List Entry) (ln : List Level-loan) (g g2 : ch.Env) (d : me.Env) (F : List Entry) (T : List Tree) (s : State) (x : Stmts)
+      → ch.stmts q g x ≡ some g2 → Frame C ln [] g d [] F → Invariant (q .datas) (F ++ C) T s
+      → Safe (After-exec q C ln g2 d (s .under)) (execs u m q d x s)
 
   -- inner names k ++ end, those of h stay: g is gk ++ gh
   abbrev pub Block-ok : ℕ → Type 0
-  Block-ok u = (C : List Entry) (ln : List Level-loan) (gk gh g2 : ch.Env) (k h : me.Env) (F : List Entry) (T : List Tree) (s : State) (x : Stmts) → ch.stmts q (gk ++ gh) x ≡ some g2 → length gk ≡ length k → Frame C ln [] (gk ++ gh) (k ++ h) [] F → Invariant (q .datas) (F ++ C) T s → Safe (λ d2 t. (d2 ≡ h) × After-exec q C ln (ch.outer gh g2) h (s .under) d2 t) (block u m q (k ++ h) h x s)
+  Block-ok u =
+      (C : List Entry) (ln : List Level-loan) (gk gh g2 : ch.Env) (k h : me.Env) (F : List Entry) (T : List Tree) (s : State) (x : Stmts)
+      → ch.stmts q (gk ++ gh) x ≡ some g2 → length gk ≡ length k → Frame C ln [] (gk ++ gh) (k ++ h) [] F → Invariant (q .datas) (F ++ C) T s
+      → Safe (λ d2 t. (d2 ≡ h) × After-exec q C ln (ch.outer gh g2) h (s .under) d2 t) (block u m q (k ++ h) h x s)
 
   abbrev pub Exec-ok : ℕ → Type 0
-  Exec-ok u = (C : List Entry) (ln : List Level-loan) (g g2 : ch.Env) (d : me.Env) (F : List Entry) (T : List Tree) (s : State) (x : Stmt) → ch.stmt q g x ≡ some g2 → Frame C ln [] g d [] F → Invariant (q .datas) (F ++ C) T s → Safe (After-exec q C ln g2 d (s .under)) (exec u m q d x s)
+  Exec-ok u =
+      (C : List Entry) (ln : List Level-loan) (g g2 : ch.Env) (d : me.Env) (F : List Entry) (T : List Tree) (s : State) (x : Stmt)
+      → ch.stmt q g x ≡ some g2 → Frame C ln [] g d [] F → Invariant (q .datas) (F ++ C) T s
+      → Safe (After-exec q C ln g2 d (s .under)) (exec u m q d x s)
 
   abbrev pub By-alt-ok : ℕ → Type 0
-  By-alt-ok u = (C : List Entry) (ln : List Level-loan) (g g2 : ch.Env) (d : me.Env) (F : List Entry) (T : List Tree) (s : State) (w : Access) (x : Lexeme) (v : Var) (mm : Matched) (as₁ : Alts) (l : Loc) (y : Shape) → ch.there g x ≡ some v → ch.looks-at q g v w (v .ty) ≡ some mm → ch.covers (mm .data1) (ch.alt-names as₁) ≡ true → ch.alts q (mm .env) w (mm .loans) (mm .data1) as₁ ≡ some g2 → Scrutinee d x l y s → Frame C ln [] g d [] F → Invariant (q .datas) (F ++ C) T s → Safe (After-exec q C ln g2 d (s .under)) (by-alt u m q d w l as₁ y s)
+  By-alt-ok u =
+      (C : List Entry) (ln : List Level-loan) (g g2 : ch.Env) (d : me.Env) (F : List Entry) (T : List Tree) (s : State) (w : Access) (x : Lexeme)
+      (v : Var) (mm : Matched) (as₁ : Alts) (l : Loc) (y : Shape) → ch.there g x ≡ some v → ch.looks-at q g v w (v .ty) ≡ some mm
+      → ch.covers (mm .data1) (ch.alt-names as₁) ≡ true → ch.alts q (mm .env) w (mm .loans) (mm .data1) as₁ ≡ some g2 → Scrutinee d x l y s
+      → Frame C ln [] g d [] F → Invariant (q .datas) (F ++ C) T s → Safe (After-exec q C ln g2 d (s .under)) (by-alt u m q d w l as₁ y s)
 
   abbrev pub Ends-ok : ℕ → Type 0
-  Ends-ok u = (K N : List Entry) (T : List Tree) (s : State) (d : me.Env) → Roots-named d K → Invariant (q .datas) (K ++ N) T s → Safe (λ k t. After-end q N (s .under) t) (ends u m q d s)
+  Ends-ok u =
+      (K N : List Entry) (T : List Tree) (s : State) (d : me.Env) → Roots-named d K → Invariant (q .datas) (K ++ N) T s
+      → Safe (λ k t. After-end q N (s .under) t) (ends u m q d s)
 
   abbrev pub Drops-ok : ℕ → Type 0
-  Drops-ok u = (e : Entry) (N : List Entry) (T : List Tree) (s : State) (v : Value) → e .at ≡ in-flight v → Invariant (q .datas) (e ∷ N) T s → Safe (λ k t. After-end q N (s .under) t) (drops u m q v s)
+  Drops-ok u =
+      (e : Entry) (N : List Entry) (T : List Tree) (s : State) (v : Value) → e .at ≡ in-flight v → Invariant (q .datas) (e ∷ N) T s
+      → Safe (λ k t. After-end q N (s .under) t) (drops u m q v s)
 
   -- the last function f of data x: a typed tree in flight
   abbrev pub Lasts-ok : ℕ → Type 0
-  Lasts-ok u = (N : List Entry) (x : Tree) (T : List Tree) (s : State) (w : Lexeme) (f : Fn) → ok-fn q f ≡ true → types-of-pars (f .pars) ≡ mut (dat w) ∷ [] → f .ret ≡ int → Typed (q .datas) x (dat w) → Invariant (q .datas) (owned-entry x (dat w) ∷ N) (x ∷ T) s → Safe (λ k t. After-end q N (s .under) t) (lasts u m q f (flat x) s)
+  Lasts-ok u =
+      (N : List Entry) (x : Tree) (T : List Tree) (s : State) (w : Lexeme) (f : Fn) → ok-fn q f ≡ true → types-of-pars (f .pars) ≡ mut (dat w) ∷ []
+      → f .ret ≡ int → Typed (q .datas) x (dat w) → Invariant (q .datas) (owned-entry x (dat w) ∷ N) (x ∷ T) s
+      → Safe (λ k t. After-end q N (s .under) t) (lasts u m q f (flat x) s)
 
   abbrev pub Parts-ok : ℕ → Type 0
-  Parts-ok u = (N : List Entry) (x : Tree) (T : List Tree) (s : State) (w : Lexeme) → Typed (q .datas) x (dat w) → Invariant (q .datas) (owned-entry x (dat w) ∷ N) (x ∷ T) s → Safe (λ k t. After-end q N (s .under) t) (parts-of u m q (flat x) s)
+  Parts-ok u =
+      (N : List Entry) (x : Tree) (T : List Tree) (s : State) (w : Lexeme) → Typed (q .datas) x (dat w)
+      → Invariant (q .datas) (owned-entry x (dat w) ∷ N) (x ∷ T) s → Safe (λ k t. After-end q N (s .under) t) (parts-of u m q (flat x) s)
 
   abbrev pub Drops-all-ok : ℕ → Type 0
-  Drops-all-ok u = (K N : List Entry) (T : List Tree) (s : State) (vs : Values) → Dropping vs K → Invariant (q .datas) (K ++ N) T s → Safe (λ k t. After-end q N (s .under) t) (drops-all u m q vs s)
+  Drops-all-ok u =
+      (K N : List Entry) (T : List Tree) (s : State) (vs : Values) → Dropping vs K → Invariant (q .datas) (K ++ N) T s
+      → Safe (λ k t. After-end q N (s .under) t) (drops-all u m q vs s)
 
 pub record Preserved (q : Prog) (m : Limits) (u : ℕ) : Type 0 where
   pub eval-ok : Eval-ok q m u

@@ -30,13 +30,18 @@ bodies-suc q m u o hyp C ln g d k h F T s qs t (body ss tl) e lp d-is sc w = go 
     rest : me.Env → State → Res Value
     rest i z = me.then (tails u m q i tl z) (λ v y. me.then (ends u m q (newer i h) y) (λ j x. me.ok v x))
 
-    go : (ob : Option ch.Env) → ch.stmts q g ss ≡ ob → from-option ob false (λ g2. ch.is-tail q qs t g2 tl) ≡ true → Safe Post (me.then (execs u m q d ss s) rest)
+    go : (ob : Option ch.Env) → ch.stmts q g ss ≡ ob → from-option ob false (λ g2. ch.is-tail q qs t g2 tl) ≡ true
+        → Safe Post (me.then (execs u m q d ss s) rest)
     go none eq e1 = absurd (true-false (sym e1))
-    go (some g2) eq e1 = safe-then (After-exec q C ln g2 d (s .under)) Post (execs u m q d ss s) rest (hyp .execs-ok C ln g g2 d F T s ss eq sc w) behind
+    go (some g2) eq e1 =
+        safe-then (After-exec q C ln g2 d (s .under)) Post (execs u m q d ss s) rest (hyp .execs-ok C ln g g2 d F T s ss eq sc w) behind
       where
         behind : (i : me.Env) (z : State) → After-exec q C ln g2 d (s .under) i z → Safe Post (rest i z)
-        behind i z a = safe-then (After-give q C ln i t (z .under)) Post (tails u m q i tl z) (λ v y. me.then (ends u m q (newer i h) y) (λ j x. me.ok v x))
-            (hyp .tails-ok C ln g2 i (a .F) (a .T) z qs t tl e1 (grows-lent qs g g2 (stmts-grows q g ss g2 (scope-distinct (length C) ln g d F (sc .names)) eq) lp) (record { names = a .names; above = λ l j. absurd j; under = sc .under }) (a .world))
+        behind i z a =
+            safe-then (After-give q C ln i t (z .under)) Post (tails u m q i tl z) (λ v y. me.then (ends u m q (newer i h) y) (λ j x. me.ok v x))
+            (hyp .tails-ok C ln g2 i (a .F) (a .T) z qs t tl e1
+            (grows-lent qs g g2 (stmts-grows q g ss g2 (scope-distinct (length C) ln g d F (sc .names)) eq) lp)
+            (record { names = a .names; above = λ l j. absurd j; under = sc .under }) (a .world))
             given
           where
             i-is : i ≡ (a .newer ++ k) ++ h
@@ -50,5 +55,19 @@ bodies-suc q m u o hyp C ln g d k h F T s qs t (body ss tl) e lp d-is sc w = go 
                 let pa = roots-parted (a .newer ++ k) h (b .F) (subst (λ j. Roots-named j (b .F)) i-is (b .named)) in
                 subst (λ j. Safe Post (me.then (ends u m q j y) (λ j1 x. me.ok v x))) (sym new-is)
                 (safe-then (λ j x. After-end q (pa .1 ++ (b .top ∷ C)) (y .under) x) Post (ends u m q (a .newer ++ k) y) (λ j x. me.ok v x)
-                (hyp .ends-ok (pa .0) (pa .1 ++ (b .top ∷ C)) (b .T) y (a .newer ++ k) (pa .3) (subst (λ j. Invariant (q .datas) j (b .T) y) (ap (λ j. j ++ (b .top ∷ C)) (pa .2) ∙ append-assoc (pa .0) (pa .1) (b .top ∷ C)) (b .world)))
-                (λ j x f. record { top = b .top; F = pa .1; T = f .T; flight = b .flight; loans = b .loans; named = pa .4; no-refs = no-borrows-under (pa .0) (pa .1) (subst (λ y1. No-borrows (kinds y1)) (pa .2) (b .no-refs)); world = f .world; under = f .under ∙ b .under ∙ a .under }))
+                (hyp .ends-ok (pa .0) (pa .1 ++ (b .top ∷ C)) (b .T) y (a .newer ++ k) (pa .3)
+                (subst (λ j. Invariant (q .datas) j (b .T) y)
+                (ap (λ j. j ++ (b .top ∷ C)) (pa .2) ∙ append-assoc (pa .0) (pa .1) (b .top ∷ C)) (b .world)))
+                (λ j x f. record {
+                  top = b .top;
+                  F = pa .1;
+                  T = f .T;
+                  flight = b .flight;
+                  loans = b .loans;
+                  named = pa .4;
+                  no-refs = no-borrows-under
+                      (pa .0) (pa .1) (subst (λ y1. No-borrows (kinds y1)) (pa .2) (b .no-refs));
+                  world = f .world;
+                  under = f .under
+                      ∙ b .under ∙ a .under;
+                }))

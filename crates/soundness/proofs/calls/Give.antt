@@ -29,13 +29,16 @@ use Rattle.soundness.proofs.frames.Return.{retired, retired-no-borrows, retire
 use Rattle.soundness.proofs.Safety.{safe-weaken}
 use Rattle.soundness.proofs.stmts.Plain.{int-then}
 
-split-by : (F C : List Entry) (T : List Tree) → length T ≡ length (F ++ C) → (T1 : List Tree) × (T2 : List Tree) × (T ≡ T1 ++ T2) × (length F ≡ length T1) × (length T2 ≡ length C)
+split-by : (F C : List Entry) (T : List Tree) → length T ≡ length (F ++ C)
+    → (T1 : List Tree) × (T2 : List Tree) × (T ≡ T1 ++ T2) × (length F ≡ length T1) × (length T2 ≡ length C)
 split-by [] C T h = ([], T, refl, refl, h)
 split-by (e ∷ F) C [] h = absurd (omega arith)
 split-by (e ∷ F) C (x ∷ T) h = let r = split-by F C T (omega arith) in (x ∷ r .0, r .1, ap (λ z. x ∷ z) (r .2), ap suc (r .3), r .4)
 
 -- from what's there behind the expression to what's there behind give
-pub give-after : (q : Prog) (C : List Entry) (ln : List Level-loan) (g : ch.Env) (d : me.Env) (qs : List Lexeme) (r : ch.Typed) (k : ℕ) (v : Value) (s : State) (n1 : ℕ) → Env-like g (r .env) → Ref-params qs g → ((l : Level-loan) → In l ln → l .level < length C) → from-caller n1 g qs (r .loans) ≡ true → After-eval q C ln d [] r k v s → After-give q C ln d (r .ty) k v s
+pub give-after : (q : Prog) (C : List Entry) (ln : List Level-loan) (g : ch.Env) (d : me.Env) (qs : List Lexeme) (r : ch.Typed) (k : ℕ) (v : Value)
+    (s : State) (n1 : ℕ) → Env-like g (r .env) → Ref-params qs g → ((l : Level-loan) → In l ln → l .level < length C)
+    → from-caller n1 g qs (r .loans) ≡ true → After-eval q C ln d [] r k v s → After-give q C ln d (r .ty) k v s
 give-after q C ln g d qs r k v s n1 lk lp low fc a = by-tree (a .T) (a .world)
   where
     F : List Entry
@@ -51,7 +54,8 @@ give-after q C ln g d qs r k v s n1 lk lp low fc a = by-tree (a .T) (a .world)
         w2 : Invariant (q .datas) (a .top ∷ (F ++ C)) (x ∷ (sp .0 ++ sp .1)) s
         w2 = subst (λ z. Invariant (q .datas) (a .top ∷ (F ++ C)) (x ∷ z) s) (sp .2) w
 
-        finish : (sh : Kind) → Kind-fits (r .ty) sh → ((l : Level-loan) → In l (loans-of sh) → In l ln) → Well-borrowed (sh ∷ kinds C) → Entry-ok (q .datas) (s .roots) (a .top .at) (a .top .gone) sh x C (sp .1) → After-give q C ln d (r .ty) k v s
+        finish : (sh : Kind) → Kind-fits (r .ty) sh → ((l : Level-loan) → In l (loans-of sh) → In l ln) → Well-borrowed (sh ∷ kinds C)
+            → Entry-ok (q .datas) (s .roots) (a .top .at) (a .top .gone) sh x C (sp .1) → After-give q C ln d (r .ty) k v s
         finish sh su lo1 sn f1 = record {
           top = record { at = a .top .at; gone = a .top .gone; kind = sh };
           F = retired F;
@@ -60,47 +64,68 @@ give-after q C ln g d qs r k v s n1 lk lp low fc a = by-tree (a .T) (a .world)
           loans = lo1;
           named = retired-named (length C) ln (r .env) d F (a .names);
           no-refs = retired-no-borrows F;
-          world = give-below (q .datas) (length C) ln (r .env) d (a .top) (record { at = a .top .at; gone = a .top .gone; kind = sh }) F C x (sp .0) (sp .1) s (a .names) (sp .3) refl sn f1 w2;
+          world =
+              give-below (q .datas) (length C) ln (r .env) d (a .top) (record { at = a .top .at; gone = a .top .gone; kind = sh }) F C x (sp .0)
+              (sp .1) s (a .names) (sp .3) refl sn f1 w2;
           under = a .under;
         }
 
-        suits-lent : (al : Bool) (t : Ty) (b : Addr) (ls : List Level-loan) → Kind-fits (r .ty) (borrow al t b ls) → Kind-fits (r .ty) (borrow al t b ln)
+        suits-lent : (al : Bool) (t : Ty) (b : Addr) (ls : List Level-loan) → Kind-fits (r .ty) (borrow al t b ls)
+            → Kind-fits (r .ty) (borrow al t b ln)
         suits-lent true t b ls h = h
         suits-lent false t b ls h = h
 
         by-shape1 : (sh : Kind) → a .top .kind ≡ sh → After-give q C ln d (r .ty) k v s
-        by-shape1 (own t) e = finish (own t) (subst (Kind-fits (r .ty)) e (a .flight .type)) (λ l i. absurd i) (push-own (kinds C) (borrows-under F C (pop-borrows (a .top .kind) (kinds (F ++ C)) (w .borrows))) t) (subst (λ z. Entry-ok (q .datas) (s .roots) (a .top .at) (a .top .gone) z x (F ++ C) (sp .0 ++ sp .1)) e (w2 .fine .0))
+        by-shape1 (own t) e =
+            finish (own t) (subst (Kind-fits (r .ty)) e (a .flight .type)) (λ l i. absurd i)
+            (push-own (kinds C) (borrows-under F C (pop-borrows (a .top .kind) (kinds (F ++ C)) (w .borrows))) t)
+            (subst (λ z. Entry-ok (q .datas) (s .roots) (a .top .at) (a .top .gone) z x (F ++ C) (sp .0 ++ sp .1)) e (w2 .fine .0))
         by-shape1 (borrow al t b ls) e =
             let sn1 : Well-borrowed (borrow al t b ls ∷ kinds (F ++ C)) = subst (λ z. Well-borrowed (z ∷ kinds (F ++ C))) e (w .borrows) in
             let f1 = subst (λ z. Entry-ok (q .datas) (s .roots) (a .top .at) (a .top .gone) z x (F ++ C) (sp .0 ++ sp .1)) e (w2 .fine .0) in
-            let cov : Loans-cover (length C) ln (r .env) (r .loans) ls = subst (λ z. Loans-cover (length C) ln (r .env) (r .loans) (loans-of z)) e (a .covered) in
-            let oc = from-caller-ok C ln (r .env) d F qs (a .names) (sn1 .anchored .1) (lent-like qs g (r .env) lk lp) n1 (r .loans) ls (b .owner) (from-caller-like n1 g (r .env) qs (r .loans) lk fc) cov (sn1 .anchored .0 .1) in
+            let cov : Loans-cover (length C) ln (r .env) (r .loans) ls = subst (λ z. Loans-cover (length C) ln (r .env) (r .loans) (loans-of z)) e
+            (a .covered) in
+            let oc = from-caller-ok C ln (r .env) d F qs (a .names) (sn1 .anchored .1) (lent-like qs g (r .env) lk lp) n1 (r .loans) ls (b .owner)
+            (from-caller-like n1 g (r .env) qs (r .loans) lk fc) cov (sn1 .anchored .0 .1) in
             let gs = given-borrows C ln (r .env) d F (r .loans) al t b ls (a .names) low cov oc sn1 in
-            finish (borrow al t b ln) (suits-lent al t b ls (subst (Kind-fits (r .ty)) e (a .flight .type))) (λ l i. i) (gs .0) (f1 .0, (f1 .1 .0, f1 .1 .1, valid-ref-down (q .datas) F C (sp .0) (sp .1) t b (f1 .1 .0) (sp .4) (gs .1) (f1 .1 .2)))
+            finish (borrow al t b ln) (suits-lent al t b ls (subst (Kind-fits (r .ty)) e (a .flight .type))) (λ l i. i) (gs .0)
+            (f1 .0, (f1 .1 .0, f1 .1 .1, valid-ref-down (q .datas) F C (sp .0) (sp .1) t b (f1 .1 .0) (sp .4) (gs .1) (f1 .1 .2)))
         by-shape1 inert e = absurd (subst (Kind-fits (r .ty)) e (a .flight .type))
 
 -- the case give e of tails
-pub give-step : (q : Prog) (m : Limits) (u : ℕ) → Preserved q m u → (C : List Entry) (ln : List Level-loan) (g : ch.Env) (d : me.Env) (F : List Entry) (T : List Tree) (s : State) (qs : List Lexeme) (t : Ty) (x : Expr) → ch.is-tail q qs t g (give x) ≡ true → Ref-params qs g → Frame C ln [] g d [] F → Invariant (q .datas) (F ++ C) T s → Safe (After-give q C ln d t (s .under)) (tails (suc u) m q d (give x) s)
+pub give-step : (q : Prog) (m : Limits) (u : ℕ) → Preserved q m u
+    → (C : List Entry) (ln : List Level-loan) (g : ch.Env) (d : me.Env) (F : List Entry) (T : List Tree) (s : State) (qs : List Lexeme) (t : Ty)
+    (x : Expr) → ch.is-tail q qs t g (give x) ≡ true → Ref-params qs g → Frame C ln [] g d [] F → Invariant (q .datas) (F ++ C) T s
+    → Safe (After-give q C ln d t (s .under)) (tails (suc u) m q d (give x) s)
 unfolding me.eval
 give-step q m u h C ln g d F T s qs t x e lp sc w = go (ch.expr q [] g x) refl e
   where
-    go : (o : Option ch.Typed) → ch.expr q [] g x ≡ o → from-option o false (λ r. same-ty (r .ty) t && from-caller (suc (length g)) g qs (r .loans)) ≡ true → Safe (After-give q C ln d t (s .under)) (eval u m q d x s)
+    go : (o : Option ch.Typed) → ch.expr q [] g x ≡ o
+        → from-option o false (λ r. same-ty (r .ty) t && from-caller (suc (length g)) g qs (r .loans)) ≡ true
+        → Safe (After-give q C ln d t (s .under)) (eval u m q d x s)
     go none ex e1 = absurd (true-false (sym e1))
     go (some r) ex e1 =
         let ty-is : r .ty ≡ t = same-ty-is (r .ty) t (and-left (same-ty (r .ty) t) (from-caller (suc (length g)) g qs (r .loans)) e1) in
         safe-weaken (After-eval q C ln d [] r (s .under)) (After-give q C ln d t (s .under)) (eval u m q d x s)
-        (λ v z a. subst (λ y. After-give q C ln d y (s .under) v z) ty-is (give-after q C ln g d qs r (s .under) v z (suc (length g)) (expr-like q [] g x r ex) lp (sc .under) (and-right (same-ty (r .ty) t) (from-caller (suc (length g)) g qs (r .loans)) e1) a))
+        (λ v z a. subst (λ y. After-give q C ln d y (s .under) v z) ty-is
+        (give-after q C ln g d qs r (s .under) v z (suc (length g)) (expr-like q [] g x r ex) lp (sc .under)
+        (and-right (same-ty (r .ty) t) (from-caller (suc (length g)) g qs (r .loans)) e1) a))
         (h .eval-ok C ln [] g d [] F T s x r ex sc w)
 
 -- give if e
-pub give-cond-step : (q : Prog) (m : Limits) (u : ℕ) → Preserved q m u → (C : List Entry) (ln : List Level-loan) (g : ch.Env) (d : me.Env) (F : List Entry) (T : List Tree) (s : State) (qs : List Lexeme) (t : Ty) (e1 : Expr) (f1 f2 : Body) → ch.is-tail q qs t g (give-cond e1 f1 f2) ≡ true → Ref-params qs g → Frame C ln [] g d [] F → Invariant (q .datas) (F ++ C) T s → Safe (After-give q C ln d t (s .under)) (tails (suc u) m q d (give-cond e1 f1 f2) s)
+pub give-cond-step : (q : Prog) (m : Limits) (u : ℕ) → Preserved q m u
+    → (C : List Entry) (ln : List Level-loan) (g : ch.Env) (d : me.Env) (F : List Entry) (T : List Tree) (s : State) (qs : List Lexeme) (t : Ty)
+    (e1 : Expr) (f1 f2 : Body) → ch.is-tail q qs t g (give-cond e1 f1 f2) ≡ true → Ref-params qs g → Frame C ln [] g d [] F
+    → Invariant (q .datas) (F ++ C) T s → Safe (After-give q C ln d t (s .under)) (tails (suc u) m q d (give-cond e1 f1 f2) s)
 unfolding me.eval
 give-cond-step q m u h C ln g d F T s qs t e1 f1 f2 e lp sc w = go (ch.expr q [] g e1) refl e
   where
     P : Value → State → Type 0
     P = After-give q C ln d t (s .under)
 
-    go : (o : Option ch.Typed) → ch.expr q [] g e1 ≡ o → from-option o false (λ r. same-ty (r .ty) int && (ch.is-body q qs t (r .env) f1 && ch.is-body q qs t (r .env) f2)) ≡ true → Safe P (me.then (eval u m q d e1 s) (λ v z. me.need z (num-of v) (λ k. bodies u m q d d (choose (eqb k 0) f2 f1) z)))
+    go : (o : Option ch.Typed) → ch.expr q [] g e1 ≡ o
+        → from-option o false (λ r. same-ty (r .ty) int && (ch.is-body q qs t (r .env) f1 && ch.is-body q qs t (r .env) f2)) ≡ true
+        → Safe P (me.then (eval u m q d e1 s) (λ v z. me.need z (num-of v) (λ k. bodies u m q d d (choose (eqb k 0) f2 f1) z)))
     go none ex e2 = absurd (true-false (sym e2))
     go (some r) ex e2 =
         let ty = and-left (same-ty (r .ty) int) (ch.is-body q qs t (r .env) f1 && ch.is-body q qs t (r .env) f2) e2 in
@@ -109,6 +134,8 @@ give-cond-step q m u h C ln g d F T s qs t e1 f1 f2 e lp sc w = go (ch.expr q []
         int-then q m u h P (λ z k. bodies u m q d d (choose (eqb k 0) f2 f1) z) C ln g d F T s e1 r ex ty sc w
         (λ k F2 T2 z un sc2 w2. subst (λ j. Safe (After-give q C ln d t j) (bodies u m q d d (choose (eqb k 0) f2 f1) z)) un
         (elim (eqb k 0) as (λ j. Safe (After-give q C ln d t (z .under)) (bodies u m q d d (choose j f2 f1) z)) [
-          | true ↦ h .bodies-ok C ln (r .env) d [] d F2 T2 z qs t f2 (and-right (ch.is-body q qs t (r .env) f1) (ch.is-body q qs t (r .env) f2) two) lp2 refl sc2 w2
-          | false ↦ h .bodies-ok C ln (r .env) d [] d F2 T2 z qs t f1 (and-left (ch.is-body q qs t (r .env) f1) (ch.is-body q qs t (r .env) f2) two) lp2 refl sc2 w2
+          | true ↦ h .bodies-ok C ln (r .env) d [] d F2 T2 z qs t f2
+              (and-right (ch.is-body q qs t (r .env) f1) (ch.is-body q qs t (r .env) f2) two) lp2 refl sc2 w2
+          | false ↦ h .bodies-ok C ln (r .env) d [] d F2 T2 z qs t f1
+              (and-left (ch.is-body q qs t (r .env) f1) (ch.is-body q qs t (r .env) f2) two) lp2 refl sc2 w2
         ]))

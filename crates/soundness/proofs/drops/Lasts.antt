@@ -35,21 +35,52 @@ mut-entry N r t = record { at = in-flight (ref-v (here r)); gone = false; kind =
 abbrev root-entry : ℕ → Ty → Entry
 root-entry r t = record { at = rooted r 0; gone = false; kind = own t }
 
-push-mut : (ds : List Data) (N : List Entry) (r : ℕ) (t : Ty) (x : Tree) (T : List Tree) (s : State) → Typed ds x t → Invariant ds (root-entry r t ∷ N) (x ∷ T) s → Invariant ds (mut-entry N r t ∷ (root-entry r t ∷ N)) (hole-t ∷ (x ∷ T)) s
+push-mut : (ds : List Data) (N : List Entry) (r : ℕ) (t : Ty) (x : Tree) (T : List Tree) (s : State) → Typed ds x t
+    → Invariant ds (root-entry r t ∷ N) (x ∷ T) s → Invariant ds (mut-entry N r t ∷ (root-entry r t ∷ N)) (hole-t ∷ (x ∷ T)) s
 push-mut ds N r t x T s ty w = record {
   borrows = record {
-    exclusivity = reborrow (own t ∷ kinds N) (w .borrows .exclusivity) (length (kinds N)) (own t) (record { owner = length (kinds N); path = [] }) (level-top (own t) (kinds N)) refl (borrow true t (owner-top N) (lent-top N ∷ [])) (owner-top N) refl (kinds-length N, ([], refl)) (λ e. refl)
-        (inr ((lent-top N, inl refl, sym (kinds-length N), λ e. refl), λ j v d lt v-at d-is co ex. (let g = level-below (own t ∷ kinds N) j v v-at in omega arith)));
+    exclusivity =
+        reborrow (own t ∷ kinds N) (w .borrows .exclusivity) (length (kinds N)) (own t) (record { owner = length (kinds N); path = [] })
+        (level-top (own t) (kinds N)) refl (borrow true t (owner-top N) (lent-top N ∷ [])) (owner-top N) refl (kinds-length N, ([], refl)) (λ e. refl)
+        (inr (
+          (lent-top N, inl refl, sym (kinds-length N), λ e. refl),
+          λ j v d lt v-at d-is co ex.
+              (let g = level-below (own t ∷ kinds N) j v v-at in omega arith),
+        ));
     anchored = (
       (
         λ l i. elim i [ inl e ↦ (let k : l .level ≡ length N = ap (λ z. z .level) e in let k2 = kinds-length N in omega arith) | inr e ↦ absurd e ],
-        (lent-top N, inl refl, ap (λ o. if-some o (λ z. if-some (addr-of (length N) z) (λ a. some (a .owner)))) (level-at (own t) (kinds N) (length N) (kinds-length N))),
+        (
+          lent-top N,
+          inl refl,
+          ap (λ o. if-some o (λ z. if-some (addr-of (length N) z) (λ a. some (a .owner))))
+              (level-at (own t) (kinds N) (length N) (kinds-length N)),
+        ),
         (t, level-at (own t) (kinds N) (length N) (kinds-length N)),
       ),
       w .borrows .anchored,
     );
   };
-  fine = ((refl, (ref-v (here r), refl, record { root = r; whole = x; part = x; standing = level-at (rooted r 0) (places N) (length N) (places-length N); holding = level-at x T (length N) (entries-length ds (s .roots) N T (w .fine .1)); leading = refl; typed = ty; value = refl })), w .fine);
+  fine = (
+    (
+      refl,
+      (
+        ref-v (here r),
+        refl,
+        record {
+          root = r;
+          whole = x;
+          part = x;
+          standing = level-at (rooted r 0) (places N) (length N) (places-length N);
+          holding = level-at x T (length N) (entries-length ds (s .roots) N T (w .fine .1));
+          leading = refl;
+          typed = ty;
+          value = refl;
+        },
+      ),
+    ),
+    w .fine,
+  );
   sums = λ f. (let a = w .sums f in omega arith);
   counted = w .counted;
 }
@@ -57,8 +88,12 @@ push-mut ds N r t x T s ty w = record {
 pub lasts-suc : (q : Prog) (m : Limits) (u : ℕ) → ch.accepts q ≡ true → Preserved q m u → Lasts-ok q m (suc u)
 unfolding me.eval
 lasts-suc q m u o h N x T s w f okf pars ret ty wo =
-    safe-then (After-call q C A int (s .under)) (λ k z. After-end q N (s .under) z) (calls u m q f (ref-v (here r) ∷ []) s1) (λ k z. me.need z (read-at z (here r)) (λ y. parts-of u m q y (kill z r)))
-    (subst (λ z. Safe (After-call q C A z (s .under)) (calls u m q f (ref-v (here r) ∷ []) s1)) ret (h .calls-ok C A (hole-t ∷ (x ∷ T)) s1 f (cons-v (ref-v (here r)) nil-v) okf (subst (λ z. Arguments A z (cons-v (ref-v (here r)) nil-v)) (sym pars) flown) (λ l i. low l i) (push-mut (q .datas) N r (dat w) x T s1 ty (root-top (q .datas) (owned-entry x (dat w)) N x T s (flat x) refl wo))))
+    safe-then (After-call q C A int (s .under)) (λ k z. After-end q N (s .under) z) (calls u m q f (ref-v (here r) ∷ []) s1)
+    (λ k z. me.need z (read-at z (here r)) (λ y. parts-of u m q y (kill z r)))
+    (subst (λ z. Safe (After-call q C A z (s .under)) (calls u m q f (ref-v (here r) ∷ []) s1)) ret
+    (h .calls-ok C A (hole-t ∷ (x ∷ T)) s1 f (cons-v (ref-v (here r)) nil-v) okf
+    (subst (λ z. Arguments A z (cons-v (ref-v (here r)) nil-v)) (sym pars) flown) (λ l i. low l i)
+    (push-mut (q .datas) N r (dat w) x T s1 ty (root-top (q .datas) (owned-entry x (dat w)) N x T s (flat x) refl wo))))
     (λ k z a. after z (a .under) (pop-int (q .datas) (a .top) C (a .T) z k (a .flight) (a .world)))
   where
     r : ℕ
@@ -80,11 +115,16 @@ lasts-suc q m u o h N x T s w f okf pars ret ty wo =
     low l (inl e) = let k : l .level ≡ length N = ap (λ z. z .level) e in omega arith
     low l (inr e) = absurd e
 
-    after : (z : State) → z .under ≡ s .under → (U : List Tree) × Invariant (q .datas) C U z → Safe (λ k y. After-end q N (s .under) y) (me.need z (read-at z (here r)) (λ y. parts-of u m q y (kill z r)))
+    after : (z : State) → z .under ≡ s .under → (U : List Tree) × Invariant (q .datas) C U z
+        → Safe (λ k y. After-end q N (s .under) y) (me.need z (read-at z (here r)) (λ y. parts-of u m q y (kill z r)))
     after z un (U, w2) = go U w2
       where
-        go : (U : List Tree) → Invariant (q .datas) C U z → Safe (λ k y. After-end q N (s .under) y) (me.need z (read-at z (here r)) (λ y. parts-of u m q y (kill z r)))
+        go : (U : List Tree) → Invariant (q .datas) C U z
+            → Safe (λ k y. After-end q N (s .under) y) (me.need z (read-at z (here r)) (λ y. parts-of u m q y (kill z r)))
         go [] w3 = absurd (w3 .fine)
-        go (y ∷ U2) w3 = safe-need (λ k y1. After-end q N (s .under) y1) z (read-at z (here r)) (λ y1. parts-of u m q y1 (kill z r)) (flat y) (reads z r (flat y) 0 (w3 .fine .0 .0))
+        go (y ∷ U2) w3 =
+            safe-need (λ k y1. After-end q N (s .under) y1) z (read-at z (here r)) (λ y1. parts-of u m q y1 (kill z r)) (flat y)
+            (reads z r (flat y) 0 (w3 .fine .0 .0))
             (subst (λ k. Safe (λ k1 y1. After-end q N k y1) (parts-of u m q (flat y) (kill z r))) (killed-under z r ∙ un)
-            (h .parts-ok N y U2 (kill z r) w (not-gone (q .datas) false (dat w) y refl (w3 .fine .0 .3)) (kill-top (q .datas) (root-entry r (dat w)) N y U2 z r (flat y) refl (w3 .fine .0 .0) w3)))
+            (h .parts-ok N y U2 (kill z r) w (not-gone (q .datas) false (dat w) y refl (w3 .fine .0 .3))
+            (kill-top (q .datas) (root-entry r (dat w)) N y U2 z r (flat y) refl (w3 .fine .0 .0) w3)))

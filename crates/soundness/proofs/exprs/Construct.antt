@@ -27,17 +27,23 @@ use Rattle.soundness.proofs.frames.Names.{name-level-low, scope-length}
 use Rattle.soundness.proofs.Safety.{safe-then, safe-need, safe-choose, safe-weaken}
 
 -- C(..)
-pub ctor-step : (q : Prog) (m : Limits) (u : ℕ) → ch.accepts q ≡ true → Preserved q m u → (C : List Entry) (ln : List Level-loan) (held : List Loan) (g : ch.Env) (d : me.Env) (H F : List Entry) (T : List Tree) (s : State) (k : Lexeme) (es : Exprs) (r : ch.Typed) → ch.expr q held g (ctor k es) ≡ some r → Frame C ln held g d H F → Invariant (q .datas) (H ++ (F ++ C)) T s → Safe (After-eval q C ln d H r (s .under)) (eval (suc u) m q d (ctor k es) s)
+pub ctor-step : (q : Prog) (m : Limits) (u : ℕ) → ch.accepts q ≡ true → Preserved q m u
+    → (C : List Entry) (ln : List Level-loan) (held : List Loan) (g : ch.Env) (d : me.Env) (H F : List Entry) (T : List Tree) (s : State) (k : Lexeme)
+    (es : Exprs) (r : ch.Typed) → ch.expr q held g (ctor k es) ≡ some r → Frame C ln held g d H F → Invariant (q .datas) (H ++ (F ++ C)) T s
+    → Safe (After-eval q C ln d H r (s .under)) (eval (suc u) m q d (ctor k es) s)
 unfolding me.eval
 ctor-step q m u o h C ln held g d H F T s k es r e sc w =
-    let y = if-some-is (home-of (q .datas) k) (λ hm. if-some (ch.args q held g es (hm .ctor1 .fields)) (λ r2. typed (dat (hm .data1 .name)) [] (r2 .env))) r e in
+    let y = if-some-is (home-of (q .datas) k)
+    (λ hm. if-some (ch.args q held g es (hm .ctor1 .fields)) (λ r2. typed (dat (hm .data1 .name)) [] (r2 .env))) r e in
     let hm : Home = y .0 in
     let z = if-some-is (ch.args q held g es (hm .ctor1 .fields)) (λ r2. typed (dat (hm .data1 .name)) [] (r2 .env)) r (y .2) in
     let r-is : record { ty = dat (hm .data1 .name); loans = []; env = z .0 .env } ≡ r = some-is (z .2) in
-    safe-then (After-args q C ln d [] H (hm .ctor1 .fields) (z .0) (s .under)) (After-eval q C ln d H r (s .under)) (evals u m q d es nil-v s) (λ vs t. me.ok (con-v k vs) t)
+    safe-then (After-args q C ln d [] H (hm .ctor1 .fields) (z .0) (s .under)) (After-eval q C ln d H r (s .under)) (evals u m q d es nil-v s)
+    (λ vs t. me.ok (con-v k vs) t)
     (h .evals-ok C ln held g d [] H F T s es [] (hm .ctor1 .fields) nil-v (z .0) (z .1) no-args sc w)
     (λ vs t a. (
-    let mk = make-con (q .datas) (H ++ (a .F ++ C)) (a .K) (hm .ctor1 .fields) vs (a .T) t k hm (y .1) refl (subst (λ i. Arguments i (hm .ctor1 .fields) vs) (append-nil (a .K)) (a .flown)) (fields-owned q o k hm (y .1)) (a .world) in
+    let mk = make-con (q .datas) (H ++ (a .F ++ C)) (a .K) (hm .ctor1 .fields) vs (a .T) t k hm (y .1) refl
+    (subst (λ i. Arguments i (hm .ctor1 .fields) vs) (append-nil (a .K)) (a .flown)) (fields-owned q o k hm (y .1)) (a .world) in
     record {
       top = owned-entry (con-t k (mk .0)) (dat (hm .data1 .name));
       F = a .F;
@@ -50,7 +56,10 @@ ctor-step q m u o h C ln held g d H F T s k es r e sc w =
     }))
 
 -- box e
-pub boxed-step : (q : Prog) (m : Limits) (u : ℕ) → Preserved q m u → (C : List Entry) (ln : List Level-loan) (held : List Loan) (g : ch.Env) (d : me.Env) (H F : List Entry) (T : List Tree) (s : State) (x : Expr) (r : ch.Typed) → ch.expr q held g (boxed x) ≡ some r → Frame C ln held g d H F → Invariant (q .datas) (H ++ (F ++ C)) T s → Safe (After-eval q C ln d H r (s .under)) (eval (suc u) m q d (boxed x) s)
+pub boxed-step : (q : Prog) (m : Limits) (u : ℕ) → Preserved q m u
+    → (C : List Entry) (ln : List Level-loan) (held : List Loan) (g : ch.Env) (d : me.Env) (H F : List Entry) (T : List Tree) (s : State) (x : Expr)
+    (r : ch.Typed) → ch.expr q held g (boxed x) ≡ some r → Frame C ln held g d H F → Invariant (q .datas) (H ++ (F ++ C)) T s
+    → Safe (After-eval q C ln d H r (s .under)) (eval (suc u) m q d (boxed x) s)
 unfolding me.eval
 boxed-step q m u h C ln held g d H F T s x r e sc w =
     safe-then (After-eval q C ln d H (y .0) (s .under)) Q (eval u m q d x s) (λ v t. makes-box m t v (words-of q v))
@@ -72,9 +81,11 @@ boxed-step q m u h C ln held g d H F T s x r e sc w =
     r-is : record { ty = box (y .0 .ty); loans = []; env = y .0 .env } ≡ r
     r-is = some-is (ok1 .1)
 
-    after : (v : Value) (t : State) (a : After-eval q C ln d H (y .0) (s .under) v t) → Owned-top (q .datas) (a .T) t v ty1 (a .top) → Safe Q (makes-box m t v (words-of q v))
+    after : (v : Value) (t : State) (a : After-eval q C ln d H (y .0) (s .under) v t) → Owned-top (q .datas) (a .T) t v ty1 (a .top)
+        → Safe Q (makes-box m t v (words-of q v))
     after v t a ot = subst (λ i. Safe Q (makes-box m t i (words-of q i))) (sym (ot .value))
-        (safe-choose Q (leb (peaks (count-in (t .classes) k)) (m .heap)) (me.ok (box-v (length (t .roots))) (with-classes (adds-root t (flat tr) k) (count-in (t .classes) k))) (me.stop me.no-heap t)
+        (safe-choose Q (leb (peaks (count-in (t .classes) k)) (m .heap))
+        (me.ok (box-v (length (t .roots))) (with-classes (adds-root t (flat tr) k) (count-in (t .classes) k))) (me.stop me.no-heap t)
         (λ i. record {
           top = owned-entry (box-t (length (t .roots)) k tr) (box ty1);
           F = a .F;
@@ -82,7 +93,9 @@ boxed-step q m u h C ln held g d H F T s x r e sc w =
           flight = record { place = refl; flag = refl; type = (sym (ap (λ j. j .ty) r-is), ok1 .0) };
           covered = λ l j. absurd j;
           names = subst (λ j. Scope (length C) ln (j .env) d (a .F)) r-is (a .names);
-          world = make-box (q .datas) (a .top) (H ++ (a .F ++ C)) tr (ot .rest) t v ty1 k (a .flight .place) (words-is q tr ty1 (ot .typed)) (ot .stored) (ot .typed) (subst (λ j. Invariant (q .datas) (a .top ∷ (H ++ (a .F ++ C))) j t) (ot .trees) (a .world));
+          world =
+              make-box (q .datas) (a .top) (H ++ (a .F ++ C)) tr (ot .rest) t v ty1 k (a .flight .place) (words-is q tr ty1 (ot .typed)) (ot .stored)
+              (ot .typed) (subst (λ j. Invariant (q .datas) (a .top ∷ (H ++ (a .F ++ C))) j t) (ot .trees) (a .world));
           under = a .under;
         })
         (λ i. tt))
@@ -101,21 +114,31 @@ holds-all t (borrow false u a L) ls l su i = ap (λ z. holds z ls) su
 holds-all t inert ls l su i = absurd su
 
 -- loans that are covered are of the frame or under it
-pub covered-low : (C : List Entry) (ln : List Level-loan) (g : ch.Env) (d : me.Env) (H F : List Entry) (ls : List Loan) (L : List Level-loan) → Scope (length C) ln g d F → ((l : Level-loan) → In l ln → l .level < length C) → Loans-cover (length C) ln g ls L → (l : Level-loan) → In l L → l .level < length (H ++ (F ++ C))
+pub covered-low : (C : List Entry) (ln : List Level-loan) (g : ch.Env) (d : me.Env) (H F : List Entry) (ls : List Loan) (L : List Level-loan)
+    → Scope (length C) ln g d F → ((l : Level-loan) → In l ln → l .level < length C) → Loans-cover (length C) ln g ls L → (l : Level-loan) → In l L
+    → l .level < length (H ++ (F ++ C))
 covered-low C ln g d H F ls L mt low cov l i =
     let k1 = length-append H (F ++ C) in
     let k2 = length-append F C in
     let k3 = scope-length (length C) ln g d F mt in
-    elim (cov l i) [ inl j ↦ (let k4 = low l j in omega arith) | inr j ↦ (let k4 = name-level-low (length C) g (j .0) (l .level) (j .1) .1 in omega arith) ]
+    elim (cov l i) [
+      | inl j ↦ (let k4 = low l j in omega arith)
+      | inr j ↦ (let k4 = name-level-low (length C) g (j .0) (l .level) (j .1) .1 in omega arith)
+    ]
 
-pub call-step : (q : Prog) (m : Limits) (u : ℕ) → ch.accepts q ≡ true → Preserved q m u → (C : List Entry) (ln : List Level-loan) (held : List Loan) (g : ch.Env) (d : me.Env) (H F : List Entry) (T : List Tree) (s : State) (f : Lexeme) (es : Exprs) (r : ch.Typed) → ch.expr q held g (call f es) ≡ some r → Frame C ln held g d H F → Invariant (q .datas) (H ++ (F ++ C)) T s → Safe (After-eval q C ln d H r (s .under)) (eval (suc u) m q d (call f es) s)
+pub call-step : (q : Prog) (m : Limits) (u : ℕ) → ch.accepts q ≡ true → Preserved q m u
+    → (C : List Entry) (ln : List Level-loan) (held : List Loan) (g : ch.Env) (d : me.Env) (H F : List Entry) (T : List Tree) (s : State) (f : Lexeme)
+    (es : Exprs) (r : ch.Typed) → ch.expr q held g (call f es) ≡ some r → Frame C ln held g d H F → Invariant (q .datas) (H ++ (F ++ C)) T s
+    → Safe (After-eval q C ln d H r (s .under)) (eval (suc u) m q d (call f es) s)
 unfolding me.eval
 call-step q m u o h C ln held g d H F T s f es r e sc w =
-    let y = if-some-is (fn-named (q .funs) f) (λ k. if-some (ch.args q held g es (types-of-pars (k .pars))) (λ r2. typed (k .ret) (holds (k .ret) (r2 .loans)) (r2 .env))) r e in
+    let y = if-some-is (fn-named (q .funs) f)
+    (λ k. if-some (ch.args q held g es (types-of-pars (k .pars))) (λ r2. typed (k .ret) (holds (k .ret) (r2 .loans)) (r2 .env))) r e in
     let fn : Fn = y .0 in
     let z = if-some-is (ch.args q held g es (types-of-pars (fn .pars))) (λ r2. typed (fn .ret) (holds (fn .ret) (r2 .loans)) (r2 .env)) r (y .2) in
     let r-is : record { ty = fn .ret; loans = holds (fn .ret) (z .0 .loans); env = z .0 .env } ≡ r = some-is (z .2) in
-    safe-then (After-args q C ln d [] H (types-of-pars (fn .pars)) (z .0) (s .under)) (After-eval q C ln d H r (s .under)) (evals u m q d es nil-v s) (λ vs t. me.need t (fn-named (q .funs) f) (λ k. calls u m q k (list-of vs) t))
+    safe-then (After-args q C ln d [] H (types-of-pars (fn .pars)) (z .0) (s .under)) (After-eval q C ln d H r (s .under)) (evals u m q d es nil-v s)
+    (λ vs t. me.need t (fn-named (q .funs) f) (λ k. calls u m q k (list-of vs) t))
     (h .evals-ok C ln held g d [] H F T s es [] (types-of-pars (fn .pars)) nil-v (z .0) (z .1) no-args sc w)
     (λ vs t a. safe-need (After-eval q C ln d H r (s .under)) t (fn-named (q .funs) f) (λ k. calls u m q k (list-of vs) t) fn (y .1)
     (safe-weaken (After-call q (H ++ (a .F ++ C)) (a .K) (fn .ret) (t .under)) (After-eval q C ln d H r (s .under)) (calls u m q fn (list-of vs) t)
@@ -125,9 +148,19 @@ call-step q m u o h C ln held g d H F T s f es r e sc w =
       T = a2 .T;
       flight = subst (λ i. Value-entry v (i .ty) (a2 .top)) r-is (a2 .flight);
       covered = subst (λ i. Loans-cover (length C) ln (i .env) (i .loans) (loans-of (a2 .top .kind))) r-is
-          (λ l i. elim (a .covered l (a2 .loans l i)) [ inl j ↦ inl j | inr j ↦ inr (j .0, j .1, subst (In (loan (j .0) (l .alone))) (sym (holds-all (fn .ret) (a2 .top .kind) (z .0 .loans) l (a2 .flight .type) i)) (j .2)) ]);
+          (λ l i. elim (a .covered l (a2 .loans l i)) [
+            | inl j ↦ inl j
+            | inr j ↦ inr (
+              j .0,
+              j .1,
+              subst (In (loan (j .0) (l .alone)))
+                  (sym (holds-all (fn .ret) (a2 .top .kind) (z .0 .loans) l (a2 .flight .type) i)) (j .2),
+            )
+          ]);
       names = subst (λ i. Scope (length C) ln (i .env) d (a .F)) r-is (a .names);
       world = a2 .world;
       under = a2 .under ∙ a .under;
     })
-    (h .calls-ok (H ++ (a .F ++ C)) (a .K) (a .T) t fn vs (fns-ok q o f fn (y .1)) (subst (λ i. Arguments i (types-of-pars (fn .pars)) vs) (append-nil (a .K)) (a .flown)) (covered-low C ln (z .0 .env) d H (a .F) (z .0 .loans) (all-loans-of (a .K)) (a .names) (sc .under) (a .covered)) (a .world))))
+    (h .calls-ok (H ++ (a .F ++ C)) (a .K) (a .T) t fn vs (fns-ok q o f fn (y .1))
+    (subst (λ i. Arguments i (types-of-pars (fn .pars)) vs) (append-nil (a .K)) (a .flown))
+    (covered-low C ln (z .0 .env) d H (a .F) (z .0 .loans) (all-loans-of (a .K)) (a .names) (sc .under) (a .covered)) (a .world))))

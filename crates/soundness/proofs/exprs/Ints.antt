@@ -25,40 +25,60 @@ use Rattle.soundness.proofs.frames.Lookup.{Name-at, name-at}
 use Rattle.soundness.proofs.Safety.{safe-then, safe-need}
 use Rattle.soundness.proofs.exprs.Results.{int-after, frame-after}
 
-pub num-step : (q : Prog) (m : Limits) (u : ℕ) (C : List Entry) (ln : List Level-loan) (held : List Loan) (g : ch.Env) (d : me.Env) (H F : List Entry) (T : List Tree) (s : State) (k : ℕ) (r : ch.Typed) → ch.expr q held g (num k) ≡ some r → Frame C ln held g d H F → Invariant (q .datas) (H ++ (F ++ C)) T s → Safe (After-eval q C ln d H r (s .under)) (eval (suc u) m q d (num k) s)
+pub num-step : (q : Prog) (m : Limits) (u : ℕ) (C : List Entry) (ln : List Level-loan) (held : List Loan) (g : ch.Env) (d : me.Env) (H F : List Entry)
+    (T : List Tree) (s : State) (k : ℕ) (r : ch.Typed) → ch.expr q held g (num k) ≡ some r → Frame C ln held g d H F
+    → Invariant (q .datas) (H ++ (F ++ C)) T s → Safe (After-eval q C ln d H r (s .under)) (eval (suc u) m q d (num k) s)
 unfolding me.eval
 num-step q m u C ln held g d H F T s k r e sc w = int-after q C ln g d H F T s k (s .under) r e (sc .names) w refl
 
-pub read-step : (q : Prog) (m : Limits) (u : ℕ) (C : List Entry) (ln : List Level-loan) (held : List Loan) (g : ch.Env) (d : me.Env) (H F : List Entry) (T : List Tree) (s : State) (r : ch.Typed) → ch.expr q held g get-e ≡ some r → Frame C ln held g d H F → Invariant (q .datas) (H ++ (F ++ C)) T s → Safe (After-eval q C ln d H r (s .under)) (eval (suc u) m q d get-e s)
+pub read-step : (q : Prog) (m : Limits) (u : ℕ) (C : List Entry) (ln : List Level-loan) (held : List Loan) (g : ch.Env) (d : me.Env)
+    (H F : List Entry) (T : List Tree) (s : State) (r : ch.Typed) → ch.expr q held g get-e ≡ some r → Frame C ln held g d H F
+    → Invariant (q .datas) (H ++ (F ++ C)) T s → Safe (After-eval q C ln d H r (s .under)) (eval (suc u) m q d get-e s)
 unfolding me.eval
 read-step q m u C ln held g d H F T s r e sc w =
-    let s2 : State = record { roots = s .roots; classes = s .classes; under = s .under; turns = s .turns; ins = drop 1 (s .ins); outs = s .outs ++ (two-64 ∷ []) } in
+    let s2 : State = record {
+      roots = s .roots;
+      classes = s .classes;
+      under = s .under;
+      turns = s .turns;
+      ins = drop 1 (s .ins);
+      outs = s .outs ++ (two-64 ∷ []);
+    } in
     int-after q C ln g d H F T s2 (next-read (s .ins)) (s .under) r e (sc .names) (invariant-same (q .datas) (H ++ (F ++ C)) T s s2 refl refl w) refl
 
 -- the two numbers leave the stack as soon as they're there
-pub op-step : (q : Prog) (m : Limits) (u : ℕ) → Preserved q m u → (C : List Entry) (ln : List Level-loan) (held : List Loan) (g : ch.Env) (d : me.Env) (H F : List Entry) (T : List Tree) (s : State) (o : ℕ) (a1 a2 : Expr) (r : ch.Typed) → ch.expr q held g (op o a1 a2) ≡ some r → Frame C ln held g d H F → Invariant (q .datas) (H ++ (F ++ C)) T s → Safe (After-eval q C ln d H r (s .under)) (eval (suc u) m q d (op o a1 a2) s)
+pub op-step : (q : Prog) (m : Limits) (u : ℕ) → Preserved q m u
+    → (C : List Entry) (ln : List Level-loan) (held : List Loan) (g : ch.Env) (d : me.Env) (H F : List Entry) (T : List Tree) (s : State) (o : ℕ)
+    (a1 a2 : Expr) (r : ch.Typed) → ch.expr q held g (op o a1 a2) ≡ some r → Frame C ln held g d H F → Invariant (q .datas) (H ++ (F ++ C)) T s
+    → Safe (After-eval q C ln d H r (s .under)) (eval (suc u) m q d (op o a1 a2) s)
 unfolding me.eval
 op-step q m u h C ln held g d H F T s o a1 a2 r e sc w =
     let y = with-ty-is (ch.expr q held g a1) int (λ ls k. ch.with-ty (ch.expr q held k a2) int (λ ms i. typed int [] i)) r e in
     let z = with-ty-is (ch.expr q held (y .0 .env) a2) int (λ ms i. typed int [] i) r (y .3) in
-    safe-then (After-eval q C ln d H (y .0) (s .under)) (After-eval q C ln d H r (s .under)) (eval u m q d a1 s) (λ v t. me.then (eval u m q d a2 t) (λ v2 t2. me.need t2 (num-of v) (λ k1. me.need t2 (num-of v2) (λ k2. me.ok (int-v (worked o k1 k2)) t2))))
+    safe-then (After-eval q C ln d H (y .0) (s .under)) (After-eval q C ln d H r (s .under)) (eval u m q d a1 s)
+    (λ v t. me.then (eval u m q d a2 t) (λ v2 t2. me.need t2 (num-of v) (λ k1. me.need t2 (num-of v2) (λ k2. me.ok (int-v (worked o k1 k2)) t2))))
     (h .eval-ok C ln held g d H F T s a1 (y .0) (y .1) sc w)
     (λ v t a. (
     let fl1 : Value-entry v int (a .top) = subst (λ k. Value-entry v k (a .top)) (y .2) (a .flight) in
     let i1 = top-int (q .datas) (a .top) (H ++ (a .F ++ C)) (a .T) t v fl1 (a .world) in
     let p1 = pop-int (q .datas) (a .top) (H ++ (a .F ++ C)) (a .T) t v fl1 (a .world) in
-    safe-then (After-eval q C ln d H (z .0) (t .under)) (After-eval q C ln d H r (s .under)) (eval u m q d a2 t) (λ v2 t2. me.need t2 (num-of v) (λ k1. me.need t2 (num-of v2) (λ k2. me.ok (int-v (worked o k1 k2)) t2)))
+    safe-then (After-eval q C ln d H (z .0) (t .under)) (After-eval q C ln d H r (s .under)) (eval u m q d a2 t)
+    (λ v2 t2. me.need t2 (num-of v) (λ k1. me.need t2 (num-of v2) (λ k2. me.ok (int-v (worked o k1 k2)) t2)))
     (h .eval-ok C ln held (y .0 .env) d H (a .F) (p1 .0) t a2 (z .0) (z .1) (frame-after C ln held g (y .0 .env) d H F (a .F) sc (a .names)) (p1 .1))
     (λ v2 t2 a3. (
     let fl2 : Value-entry v2 int (a3 .top) = subst (λ k. Value-entry v2 k (a3 .top)) (z .2) (a3 .flight) in
     let i2 = top-int (q .datas) (a3 .top) (H ++ (a3 .F ++ C)) (a3 .T) t2 v2 fl2 (a3 .world) in
     let p2 = pop-int (q .datas) (a3 .top) (H ++ (a3 .F ++ C)) (a3 .T) t2 v2 fl2 (a3 .world) in
-    safe-need (After-eval q C ln d H r (s .under)) t2 (num-of v) (λ k1. me.need t2 (num-of v2) (λ k2. me.ok (int-v (worked o k1 k2)) t2)) (i1 .0) (i1 .2)
+    safe-need (After-eval q C ln d H r (s .under)) t2 (num-of v) (λ k1. me.need t2 (num-of v2) (λ k2. me.ok (int-v (worked o k1 k2)) t2))
+    (i1 .0) (i1 .2)
     (safe-need (After-eval q C ln d H r (s .under)) t2 (num-of v2) (λ k2. me.ok (int-v (worked o (i1 .0) k2)) t2) (i2 .0) (i2 .2)
-    (int-after q C ln (z .0 .env) d H (a3 .F) (p2 .0) t2 (worked o (i1 .0) (i2 .0)) (s .under) r (z .3) (a3 .names) (p2 .1) (a3 .under ∙ a .under)))))))
+    (int-after q C ln (z .0 .env) d H (a3 .F) (p2 .0) t2 (worked o (i1 .0) (i2 .0)) (s .under) r (z .3) (a3 .names) (p2 .1)
+    (a3 .under ∙ a .under)))))))
 
 -- *x
-pub load-step : (q : Prog) (m : Limits) (u : ℕ) (C : List Entry) (ln : List Level-loan) (held : List Loan) (g : ch.Env) (d : me.Env) (H F : List Entry) (T : List Tree) (s : State) (x : Lexeme) (r : ch.Typed) → ch.expr q held g (load x) ≡ some r → Frame C ln held g d H F → Invariant (q .datas) (H ++ (F ++ C)) T s → Safe (After-eval q C ln d H r (s .under)) (eval (suc u) m q d (load x) s)
+pub load-step : (q : Prog) (m : Limits) (u : ℕ) (C : List Entry) (ln : List Level-loan) (held : List Loan) (g : ch.Env) (d : me.Env)
+    (H F : List Entry) (T : List Tree) (s : State) (x : Lexeme) (r : ch.Typed) → ch.expr q held g (load x) ≡ some r → Frame C ln held g d H F
+    → Invariant (q .datas) (H ++ (F ++ C)) T s → Safe (After-eval q C ln d H r (s .under)) (eval (suc u) m q d (load x) s)
 unfolding me.eval
 load-step q m u C ln held g d H F T s x r e sc w =
     safe-need Q s (root-of d x) (λ k. me.need s (read-at s (here k)) (λ v. me.need s (loc-of v) after)) (pl .root) (pl .named)
@@ -98,7 +118,9 @@ load-step q m u C ln held g d H F T s x r e sc w =
     not-owned (ref t) a k = true-false (sym a)
     not-owned (mut t) a k = true-false (sym a)
 
-    through : (al : Bool) (t : Ty) (a : Addr) (ls : List Level-loan) → t ≡ int → at-level (kinds N) (pl .level) ≡ some (borrow al t a ls) → Entry-ok (q .datas) (s .roots) (rooted (pl .root) 0) (v .gone) (borrow al t a ls) (pl .stands .tree) N T → Safe Q (me.need s (read-at s (here (pl .root))) (λ z. me.need s (loc-of z) after))
+    through : (al : Bool) (t : Ty) (a : Addr) (ls : List Level-loan) → t ≡ int → at-level (kinds N) (pl .level) ≡ some (borrow al t a ls)
+        → Entry-ok (q .datas) (s .roots) (rooted (pl .root) 0) (v .gone) (borrow al t a ls) (pl .stands .tree) N T
+        → Safe Q (me.need s (read-at s (here (pl .root))) (λ z. me.need s (loc-of z) after))
     through al t a ls t-is at-sh fi =
         let pt = fi .1 .2 in
         let ow = owner-of (kinds N) (w .borrows .anchored) (pl .level) (borrow al t a ls) a at-sh refl in
@@ -111,7 +133,9 @@ load-step q m u C ln held g d H F T s x r e sc w =
         (safe-need Q s (num-of (flat (pt .part))) (λ j. me.ok (int-v j) s) (k .0) (ap num-of (k .1))
         (int-after q C ln g d H F T s (k .0) (s .under) r (ok1 .1) (sc .names) w refl))))
 
-    by-shape1 : (sh : Kind) → Kind-fits (v .ty) sh → at-level (kinds N) (pl .level) ≡ some sh → Entry-ok (q .datas) (s .roots) (rooted (pl .root) 0) (v .gone) sh (pl .stands .tree) N T → Safe Q (me.need s (read-at s (here (pl .root))) (λ z. me.need s (loc-of z) after))
+    by-shape1 : (sh : Kind) → Kind-fits (v .ty) sh → at-level (kinds N) (pl .level) ≡ some sh
+        → Entry-ok (q .datas) (s .roots) (rooted (pl .root) 0) (v .gone) sh (pl .stands .tree) N T
+        → Safe Q (me.need s (read-at s (here (pl .root))) (λ z. me.need s (loc-of z) after))
     by-shape1 (own t) su at-sh fi = absurd (not-owned (v .ty) (ap owned (su .0) ∙ su .1) is-load)
     by-shape1 (borrow true t a ls) su at-sh fi = through true t a ls (same-ty-is t int (ap loadable (sym su) ∙ is-load)) at-sh fi
     by-shape1 (borrow false t a ls) su at-sh fi = through false t a ls (same-ty-is t int (ap loadable (sym su) ∙ is-load)) at-sh fi

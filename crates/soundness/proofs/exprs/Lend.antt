@@ -27,14 +27,19 @@ use Rattle.soundness.proofs.frames.Names.{not-lent-by-name, free-not-among, Na
 use Rattle.soundness.proofs.Safety.{safe-need}
 
 -- &mut x
-pub lend-step : (q : Prog) (m : Limits) (u : ℕ) (C : List Entry) (ln : List Level-loan) (held : List Loan) (g : ch.Env) (d : me.Env) (H F : List Entry) (T : List Tree) (s : State) (x : Lexeme) (r : ch.Typed) → ch.expr q held g (lend x) ≡ some r → Frame C ln held g d H F → Invariant (q .datas) (H ++ (F ++ C)) T s → Safe (After-eval q C ln d H r (s .under)) (eval (suc u) m q d (lend x) s)
+pub lend-step : (q : Prog) (m : Limits) (u : ℕ) (C : List Entry) (ln : List Level-loan) (held : List Loan) (g : ch.Env) (d : me.Env)
+    (H F : List Entry) (T : List Tree) (s : State) (x : Lexeme) (r : ch.Typed) → ch.expr q held g (lend x) ≡ some r → Frame C ln held g d H F
+    → Invariant (q .datas) (H ++ (F ++ C)) T s → Safe (After-eval q C ln d H r (s .under)) (eval (suc u) m q d (lend x) s)
 unfolding me.eval
-lend-step q m u C ln held g d H F T s x r e sc w = by (if-some-is (ch.there g x) (λ v. only-if (owned (v .ty) && is-free (held ++ all-loans g) x) (typed (mut (v .ty)) (loan x true ∷ []) g)) r e)
+lend-step q m u C ln held g d H F T s x r e sc w =
+    by (if-some-is (ch.there g x) (λ v. only-if (owned (v .ty) && is-free (held ++ all-loans g) x) (typed (mut (v .ty)) (loan x true ∷ []) g)) r e)
   where
     N : List Entry
     N = H ++ (F ++ C)
 
-    by : (v : Var) × (ch.there g x ≡ some v) × (only-if (owned (v .ty) && is-free (held ++ all-loans g) x) (typed (mut (v .ty)) (loan x true ∷ []) g) ≡ some r) → Safe (After-eval q C ln d H r (s .under)) (eval (suc u) m q d (lend x) s)
+    by : (v : Var) × (ch.there g x ≡ some v)
+        × (only-if (owned (v .ty) && is-free (held ++ all-loans g) x) (typed (mut (v .ty)) (loan x true ∷ []) g) ≡ some r)
+        → Safe (After-eval q C ln d H r (s .under)) (eval (suc u) m q d (lend x) s)
     by y = with-entry (name-entry C ln g d F x v (sc .names) (th .0))
       where
         v : Var
@@ -60,7 +65,9 @@ lend-step q m u C ln held g d H F T s x r e sc w = by (if-some-is (ch.there g x)
             st = entry-at (q .datas) (s .roots) N T lx (en .en) (w .fine) at-N
 
             free : Lent (kinds N) lx false → ⊥
-            free = not-lent-by-name C ln held g d H F x lx false sc (anchored-under F C (anchored-under H (F ++ C) (w .borrows .anchored))) (en .levelled) (free-not-among (held ++ all-loans g) x (and-right (owned (v .ty)) (is-free (held ++ all-loans g) x) (ok1 .0)))
+            free =
+                not-lent-by-name C ln held g d H F x lx false sc (anchored-under F C (anchored-under H (F ++ C) (w .borrows .anchored)))
+                (en .levelled) (free-not-among (held ++ all-loans g) x (and-right (owned (v .ty)) (is-free (held ++ all-loans g) x) (ok1 .0)))
 
             a : Addr
             a = record { owner = lx; path = [] }
@@ -68,23 +75,65 @@ lend-step q m u C ln held g d H F T s x r e sc w = by (if-some-is (ch.there g x)
             l1 : Level-loan
             l1 = record { level = lx; alone = true }
 
-            by-shape1 : (sh : Kind) → Kind-fits (v .ty) sh → at-level (kinds N) lx ≡ some sh → Entry-ok (q .datas) (s .roots) (en .en .at) (en .en .gone) sh (st .tree) N T → After-eval q C ln d H r (s .under) (ref-v (here (en .root))) s
+            by-shape1 : (sh : Kind) → Kind-fits (v .ty) sh → at-level (kinds N) lx ≡ some sh
+                → Entry-ok (q .datas) (s .roots) (en .en .at) (en .en .gone) sh (st .tree) N T
+                → After-eval q C ln d H r (s .under) (ref-v (here (en .root))) s
             by-shape1 (own t) su at-sh fi = record {
               top = borrow-entry true t a (l1 ∷ []) (ref-v (here (en .root)));
               F = F;
               T = hole-t ∷ T;
               flight = record { place = refl; flag = refl; type = sym (ap (λ z. z .ty) r-is) ∙ ap mut (su .0) };
-              covered = subst (λ z. Loans-cover (length C) ln (z .env) (z .loans) (l1 ∷ [])) r-is (λ l i. elim i [ inl k ↦ inr (x, en .levelled ∙ ap {B = Option ℕ} (λ z. some (z .level)) (sym k), inl (ap (λ z. loan x (z .alone)) k)) | inr k ↦ absurd k ]);
+              covered =
+                  subst (λ z. Loans-cover (length C) ln (z .env) (z .loans) (l1 ∷ [])) r-is
+                  (λ l i. elim i [
+                    | inl k ↦ inr (
+                      x,
+                      en .levelled ∙ ap {B = Option ℕ} (λ z. some (z .level)) (sym k),
+                      inl
+                          (ap (λ z. loan x (z .alone)) k),
+                    )
+                    | inr k ↦ absurd k
+                  ]);
               names = subst (λ z. Scope (length C) ln (z .env) d F) r-is (sc .names);
               world = push-borrow (q .datas) N T s true t a (l1 ∷ []) (ref-v (here (en .root))) w
-                  (reborrow (kinds N) (w .borrows .exclusivity) lx (own t) a at-sh refl (borrow true t a (l1 ∷ [])) a refl (refl, ([], refl)) (λ z. refl) (inr ((l1, inl refl, refl, λ z. refl), unobstructed-free (kinds N) (w .borrows .exclusivity) lx (own t) a at-sh refl refl free true a (refl, ([], refl)))))
-                  (λ l i. elim i [ inl k ↦ (let k1 : l .level ≡ lx = ap (λ z. z .level) k in let k2 = level-below (kinds N) lx (own t) at-sh in omega arith) | inr k ↦ absurd k ], (l1, inl refl, ap (λ o. if-some o (λ z. if-some (addr-of lx z) (λ b. some (b .owner)))) at-sh), (t, at-sh))
-                  (record { root = en .root; whole = st .tree; part = st .tree; standing = st .place ∙ ap {B = Option Place} (λ z. some z) (en .placed); holding = st .holds; leading = refl; typed = not-gone (q .datas) (en .en .gone) t (st .tree) (en .flag ∙ th .1) (fi .3); value = refl });
+                  (reborrow (kinds N) (w .borrows .exclusivity) lx (own t) a at-sh refl (borrow true t a (l1 ∷ [])) a refl (refl, ([], refl))
+                  (λ z. refl) (inr (
+                    (l1, inl refl, refl, λ z. refl),
+                    unobstructed-free (kinds N) (w .borrows .exclusivity) lx
+                        (own t) a at-sh refl refl free true a (refl, ([], refl)),
+                  ))) (
+                    λ l i. elim i [
+                      | inl k ↦ (let k1 : l .level ≡ lx = ap (λ z. z .level) k in let k2 = level-below (kinds N) lx (own t) at-sh in
+                          omega arith)
+                      | inr k ↦ absurd k
+                    ],
+                    (
+                      l1,
+                      inl refl,
+                      ap
+                          (λ o. if-some o (λ z. if-some (addr-of lx z) (λ b. some (b .owner)))) at-sh,
+                    ),
+                    (t, at-sh),
+                  )
+                  (record {
+                    root = en .root;
+                    whole = st .tree;
+                    part = st .tree;
+                    standing = st .place ∙ ap {B = Option Place} (λ z. some z)
+                        (en .placed);
+                    holding = st .holds;
+                    leading = refl;
+                    typed = not-gone (q .datas) (en .en .gone) t (st .tree) (en .flag ∙ th .1)
+                        (fi .3);
+                    value = refl;
+                  });
               under = refl;
             }
               where
                 r-is : record { ty = mut (v .ty); loans = loan x true ∷ []; env = g } ≡ r
                 r-is = some-is (ok1 .1)
-            by-shape1 (borrow true t b ls) su at-sh fi = absurd (true-false (sym (and-left (owned (v .ty)) (is-free (held ++ all-loans g) x) (ok1 .0)) ∙ ap owned su))
-            by-shape1 (borrow false t b ls) su at-sh fi = absurd (true-false (sym (and-left (owned (v .ty)) (is-free (held ++ all-loans g) x) (ok1 .0)) ∙ ap owned su))
+            by-shape1 (borrow true t b ls) su at-sh fi =
+                absurd (true-false (sym (and-left (owned (v .ty)) (is-free (held ++ all-loans g) x) (ok1 .0)) ∙ ap owned su))
+            by-shape1 (borrow false t b ls) su at-sh fi =
+                absurd (true-false (sym (and-left (owned (v .ty)) (is-free (held ++ all-loans g) x) (ok1 .0)) ∙ ap owned su))
             by-shape1 inert su at-sh fi = absurd su

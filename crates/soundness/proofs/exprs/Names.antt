@@ -40,13 +40,15 @@ is-ref (ref t) = true
 is-ref (mut t) = false
 
 -- what isn't a number moves
-moves-dat : (ds : List Data) (Q : Value → State → Type 0) (s : State) (r : ℕ) (x : Tree) (i : Lexeme) → Typed ds x (dat i) → Safe Q (me.need s (write-at s (here r) hole) (λ t. me.ok (flat x) t)) → Safe Q (moves s r (flat x))
+moves-dat : (ds : List Data) (Q : Value → State → Type 0) (s : State) (r : ℕ) (x : Tree) (i : Lexeme) → Typed ds x (dat i)
+    → Safe Q (me.need s (write-at s (here r) hole) (λ t. me.ok (flat x) t)) → Safe Q (moves s r (flat x))
 moves-dat ds Q s r (int-t k) i ty h = absurd ty
 moves-dat ds Q s r (con-t k xs) i ty h = h
 moves-dat ds Q s r (box-t k w y) i ty h = h
 moves-dat ds Q s r hole-t i ty h = absurd ty
 
-moves-box : (ds : List Data) (Q : Value → State → Type 0) (s : State) (r : ℕ) (x : Tree) (u : Ty) → Typed ds x (box u) → Safe Q (me.need s (write-at s (here r) hole) (λ t. me.ok (flat x) t)) → Safe Q (moves s r (flat x))
+moves-box : (ds : List Data) (Q : Value → State → Type 0) (s : State) (r : ℕ) (x : Tree) (u : Ty) → Typed ds x (box u)
+    → Safe Q (me.need s (write-at s (here r) hole) (λ t. me.ok (flat x) t)) → Safe Q (moves s r (flat x))
 moves-box ds Q s r (int-t k) u ty h = absurd ty
 moves-box ds Q s r (con-t k xs) u ty h = h
 moves-box ds Q s r (box-t k w y) u ty h = h
@@ -58,7 +60,9 @@ place-flat r (con-t k xs) = refl
 place-flat r (box-t k w y) = refl
 place-flat r hole-t = refl
 
-module _ (q : Prog) (C : List Entry) (ln : List Level-loan) (held : List Loan) (g : ch.Env) (d : me.Env) (H F : List Entry) (T : List Tree) (s : State) (x : Lexeme) (r : ch.Typed) (v : Var) (lk : look g x ≡ some v) (there1 : v .gone ≡ false) (sc : Frame C ln held g d H F) (w : Invariant (q .datas) (H ++ (F ++ C)) T s) where
+module _ (q : Prog) (C : List Entry) (ln : List Level-loan) (held : List Loan) (g : ch.Env) (d : me.Env) (H F : List Entry) (T : List Tree)
+    (s : State) (x : Lexeme) (r : ch.Typed) (v : Var) (lk : look g x ≡ some v) (there1 : v .gone ≡ false) (sc : Frame C ln held g d H F)
+    (w : Invariant (q .datas) (H ++ (F ++ C)) T s) where
   abbrev ds : List Data
   ds = q .datas
 
@@ -78,7 +82,9 @@ module _ (q : Prog) (C : List Entry) (ln : List Level-loan) (held : List Loan) (
   Fi sh = Entry-ok ds (s .roots) (rooted (pl .root) 0) (v .gone) sh (pl .stands .tree) N T
 
   -- a value that moves
-  moved : (t : Ty) → v .ty ≡ t → owned t ≡ true → only-if (is-free (held ++ all-loans g) (v .name)) (typed t [] (set-gone true g (v .name))) ≡ some r → ((k : ℕ) (y : Tree) → Typed ds y t → Safe Q (me.need s (write-at s (here k) hole) (λ z. me.ok (flat y) z)) → Safe Q (moves s k (flat y))) → Safe Q (me.need s (root-of d x) (λ k. me.need s (read-at s (here k)) (λ z. moves s k z)))
+  moved : (t : Ty) → v .ty ≡ t → owned t ≡ true → only-if (is-free (held ++ all-loans g) (v .name)) (typed t [] (set-gone true g (v .name))) ≡ some r
+      → ((k : ℕ) (y : Tree) → Typed ds y t → Safe Q (me.need s (write-at s (here k) hole) (λ z. me.ok (flat y) z)) → Safe Q (moves s k (flat y)))
+      → Safe Q (me.need s (root-of d x) (λ k. me.need s (read-at s (here k)) (λ z. moves s k z)))
   moved t t-is ow e how =
       safe-need Q s (root-of d x) (λ k. me.need s (read-at s (here k)) (λ z. moves s k z)) (sw .root) (sw .named)
       (safe-need Q s (read-at s (here (sw .root))) (λ z. moves s (sw .root) z) (flat (sw .old)) (sw .reads-old)
@@ -90,7 +96,9 @@ module _ (q : Prog) (C : List Entry) (ln : List Level-loan) (held : List Loan) (
         T = sw .old ∷ sw .T;
         flight = record { place = refl; flag = there1; type = (sym (ap (λ z. z .ty) r-is) ∙ sym t-is, ap owned t-is ∙ ow) };
         covered = λ l i. absurd i;
-        names = subst (λ z. Scope (length C) ln (z .env) d (sw .F)) r-is (subst (λ z. Scope (length C) ln (set-gone true g z) d (sw .F)) (sym nm) (sw .names));
+        names =
+            subst (λ z. Scope (length C) ln (z .env) d (sw .F)) r-is
+            (subst (λ z. Scope (length C) ln (set-gone true g z) d (sw .F)) (sym nm) (sw .names));
         world = sw .world;
         under = sw .under;
       }))))
@@ -111,58 +119,83 @@ module _ (q : Prog) (C : List Entry) (ln : List Level-loan) (held : List Loan) (
   owned-of t inert e k su = absurd su
 
   -- by the type of x
-  as-value : (t : Ty) → v .ty ≡ t → value held g v t ≡ some r → Safe Q (me.need s (root-of d x) (λ k. me.need s (read-at s (here k)) (λ z. moves s k z)))
-  as-value int t-is e = safe-need Q s (root-of d x) (λ k. me.need s (read-at s (here k)) (λ z. moves s k z)) (pl .root) (pl .named) (by-sh (pl .en .kind) (pl .type) (pl .fine2))
+  as-value : (t : Ty) → v .ty ≡ t → value held g v t ≡ some r
+      → Safe Q (me.need s (root-of d x) (λ k. me.need s (read-at s (here k)) (λ z. moves s k z)))
+  as-value int t-is e =
+      safe-need Q s (root-of d x) (λ k. me.need s (read-at s (here k)) (λ z. moves s k z)) (pl .root) (pl .named)
+      (by-sh (pl .en .kind) (pl .type) (pl .fine2))
     where
       ok1 : (readable (held ++ all-loans g) (v .name) ≡ true) × (typed int [] g ≡ some r)
       ok1 = only-is (readable (held ++ all-loans g) (v .name)) (typed int [] g) r e
 
       by-sh : (sh : Kind) → Kind-fits (v .ty) sh → Fi sh → Safe Q (me.need s (read-at s (here (pl .root))) (λ z. moves s (pl .root) z))
       by-sh (own t) su fi =
-          let k = typed-int ds (pl .stands .tree) (subst (Typed ds (pl .stands .tree)) (sym (su .0) ∙ t-is) (not-gone ds (v .gone) t (pl .stands .tree) there1 (fi .3))) in
-          safe-need Q s (read-at s (here (pl .root))) (λ z. moves s (pl .root) z) (int-v (k .0)) (reads s (pl .root) (flat (pl .stands .tree)) 0 (fi .0) ∙ ap {B = Option Value} (λ z. some z) (k .1))
+          let k = typed-int ds (pl .stands .tree) (subst (Typed ds (pl .stands .tree)) (sym (su .0) ∙ t-is)
+          (not-gone ds (v .gone) t (pl .stands .tree) there1 (fi .3))) in
+          safe-need Q s (read-at s (here (pl .root))) (λ z. moves s (pl .root) z) (int-v (k .0))
+          (reads s (pl .root) (flat (pl .stands .tree)) 0 (fi .0) ∙ ap {B = Option Value} (λ z. some z) (k .1))
           (int-after q C ln g d H F T s (k .0) (s .under) r (ok1 .1) (sc .names) w refl)
       by-sh (borrow true t a ls) su fi = absurd (let k : int ≡ mut t = sym t-is ∙ su in true-false (ap owned k))
       by-sh (borrow false t a ls) su fi = absurd (let k : int ≡ ref t = sym t-is ∙ su in true-false (ap owned k))
       by-sh inert su fi = absurd su
   as-value (dat i) t-is e = moved (dat i) t-is refl e (λ k y ty h. moves-dat ds Q s k y i ty h)
-  as-value (box t) t-is e = elim (owned-of (box t) (pl .en .kind) t-is refl (pl .type)) [ inl ow ↦ moved (box t) t-is ow e (λ k y ty h. moves-box ds Q s k y t ty h) | inr k ↦ absurd (let z = k .1 in let z2 : _≡_ {A = ℕ} 0 1 = cc in omega arith) ]
-  as-value (ref t) t-is e = safe-need Q s (root-of d x) (λ k. me.need s (read-at s (here k)) (λ z. moves s k z)) (pl .root) (pl .named) (by-sh (pl .en .kind) (pl .type) (pl .at-sh) (pl .loans) (pl .fine2))
+  as-value (box t) t-is e =
+      elim (owned-of (box t) (pl .en .kind) t-is refl (pl .type)) [
+        | inl ow ↦ moved (box t) t-is ow e (λ k y ty h. moves-box ds Q s k y t ty h)
+        | inr k ↦ absurd (let z = k .1 in let z2 : _≡_ {A = ℕ} 0 1 = cc in omega arith)
+      ]
+  as-value (ref t) t-is e =
+      safe-need Q s (root-of d x) (λ k. me.need s (read-at s (here k)) (λ z. moves s k z)) (pl .root) (pl .named)
+      (by-sh (pl .en .kind) (pl .type) (pl .at-sh) (pl .loans) (pl .fine2))
     where
       ok1 : (readable (held ++ all-loans g) (v .name) ≡ true) × (typed (ref t) (v .loans) g ≡ some r)
       ok1 = only-is (readable (held ++ all-loans g) (v .name)) (typed (ref t) (v .loans) g) r e
 
-      by-sh : (sh : Kind) → Kind-fits (v .ty) sh → at-level (kinds N) (pl .level) ≡ some sh → Loans-cover (length C) ln g (v .loans) (loans-of sh) → Fi sh → Safe Q (me.need s (read-at s (here (pl .root))) (λ z. moves s (pl .root) z))
+      by-sh : (sh : Kind) → Kind-fits (v .ty) sh → at-level (kinds N) (pl .level) ≡ some sh → Loans-cover (length C) ln g (v .loans) (loans-of sh)
+          → Fi sh → Safe Q (me.need s (read-at s (here (pl .root))) (λ z. moves s (pl .root) z))
       by-sh (own u) su at-sh cov fi = absurd (true-false (sym (su .1) ∙ ap owned (sym (su .0) ∙ t-is)))
       by-sh (borrow true u a ls) su at-sh cov fi = absurd (true-false (ap is-ref (sym t-is ∙ su)))
       by-sh (borrow false u a ls) su at-sh cov fi =
           let pt = fi .1 .2 in
           let val : Value = ref-v (loc-down (here (pt .root)) (a .path) (pt .whole)) in
-          safe-need Q s (read-at s (here (pl .root))) (λ z. moves s (pl .root) z) val (reads s (pl .root) (fi .1 .0) 0 (fi .1 .1) ∙ ap {B = Option Value} (λ z. some z) (pt .value))
+          safe-need Q s (read-at s (here (pl .root))) (λ z. moves s (pl .root) z) val
+          (reads s (pl .root) (fi .1 .0) 0 (fi .1 .1) ∙ ap {B = Option Value} (λ z. some z) (pt .value))
           (ref-after q C ln g d H F T s false u a ls val (ref t) (v .loans) r (ok1 .1) (sym t-is ∙ su) cov (sc .names)
           (push-copy ds N T s (pl .level) u a a ls u val at-sh (prefix-self a) (subst (Valid-ref ds N T u a) (pt .value) pt) w))
       by-sh inert su at-sh cov fi = absurd su
-  as-value (mut t) t-is e = safe-need Q s (root-of d x) (λ k. me.need s (read-at s (here k)) (λ z. moves s k z)) (pl .root) (pl .named) (by-sh (pl .en .kind) (pl .type) (pl .at-sh) (pl .fine2))
+  as-value (mut t) t-is e =
+      safe-need Q s (root-of d x) (λ k. me.need s (read-at s (here k)) (λ z. moves s k z)) (pl .root) (pl .named)
+      (by-sh (pl .en .kind) (pl .type) (pl .at-sh) (pl .fine2))
     where
       ok1 : (is-free (held ++ all-loans g) (v .name) ≡ true) × (typed (mut t) (loan (v .name) true ∷ []) g ≡ some r)
       ok1 = only-is (is-free (held ++ all-loans g) (v .name)) (typed (mut t) (loan (v .name) true ∷ []) g) r e
 
-      by-sh : (sh : Kind) → Kind-fits (v .ty) sh → at-level (kinds N) (pl .level) ≡ some sh → Fi sh → Safe Q (me.need s (read-at s (here (pl .root))) (λ z. moves s (pl .root) z))
+      by-sh : (sh : Kind) → Kind-fits (v .ty) sh → at-level (kinds N) (pl .level) ≡ some sh → Fi sh
+          → Safe Q (me.need s (read-at s (here (pl .root))) (λ z. moves s (pl .root) z))
       by-sh (own u) su at-sh fi = absurd (true-false (sym (su .1) ∙ ap owned (sym (su .0) ∙ t-is)))
       by-sh (borrow false u a ls) su at-sh fi = absurd (true-false (sym (ap is-ref (sym t-is ∙ su))))
       by-sh (borrow true u a ls) su at-sh fi =
           let pt = fi .1 .2 in
           let val : Value = ref-v (loc-down (here (pt .root)) (a .path) (pt .whole)) in
-          safe-need Q s (read-at s (here (pl .root))) (λ z. moves s (pl .root) z) val (reads s (pl .root) (fi .1 .0) 0 (fi .1 .1) ∙ ap {B = Option Value} (λ z. some z) (pt .value))
-          (ref-after q C ln g d H F T s true u a (one-loan (pl .level) true) val (mut t) (loan (v .name) true ∷ []) r (ok1 .1) (sym t-is ∙ su) (subst (λ z. Loans-cover (length C) ln g (loan z true ∷ []) (one-loan (pl .level) true)) (sym nm) (one-covered (length C) ln g x (pl .level) true (pl .levelled))) (sc .names)
+          safe-need Q s (read-at s (here (pl .root))) (λ z. moves s (pl .root) z) val
+          (reads s (pl .root) (fi .1 .0) 0 (fi .1 .1) ∙ ap {B = Option Value} (λ z. some z) (pt .value))
+          (ref-after q C ln g d H F T s true u a (one-loan (pl .level) true) val (mut t) (loan (v .name) true ∷ []) r (ok1 .1) (sym t-is ∙ su)
+          (subst (λ z. Loans-cover (length C) ln g (loan z true ∷ []) (one-loan (pl .level) true)) (sym nm)
+          (one-covered (length C) ln g x (pl .level) true (pl .levelled))) (sc .names)
           (push-loan ds N T s (pl .level) (borrow true u a ls) a a true u val at-sh refl refl (prefix-self a)
-          (unobstructed-free (kinds N) (w .borrows .exclusivity) (pl .level) (borrow true u a ls) a at-sh refl refl (free-at ds C ln held g d H F T s x (pl .level) sc w (pl .levelled) (subst (λ z. is-free (held ++ all-loans g) z ≡ true) nm (ok1 .0))) true a (prefix-self a))
+          (unobstructed-free (kinds N) (w .borrows .exclusivity) (pl .level) (borrow true u a ls) a at-sh refl refl
+          (free-at ds C ln held g d H F T s x (pl .level) sc w (pl .levelled)
+          (subst (λ z. is-free (held ++ all-loans g) z ≡ true) nm (ok1 .0))) true a (prefix-self a))
           (subst (Valid-ref ds N T u a) (pt .value) pt) w))
       by-sh inert su at-sh fi = absurd su
 
   -- &x: of what's owned, or of what was lent
-  share-own : (t : Ty) → v .ty ≡ t → is-ref t ≡ false → ((u : Ty) → t ≡ mut u → ⊥) → only-if (readable (held ++ all-loans g) (v .name)) (typed (ref t) (loan (v .name) false ∷ []) g) ≡ some r → Safe Q (me.need s (root-of d x) (λ k. me.need s (read-at s (here k)) (λ z. me.ok (ref-v (place-of k z)) s)))
-  share-own t t-is nr nm2 e = safe-need Q s (root-of d x) (λ k. me.need s (read-at s (here k)) (λ z. me.ok (ref-v (place-of k z)) s)) (pl .root) (pl .named) (by-sh (pl .en .kind) (pl .type) (pl .at-sh) (pl .fine2))
+  share-own : (t : Ty) → v .ty ≡ t → is-ref t ≡ false → ((u : Ty) → t ≡ mut u → ⊥)
+      → only-if (readable (held ++ all-loans g) (v .name)) (typed (ref t) (loan (v .name) false ∷ []) g) ≡ some r
+      → Safe Q (me.need s (root-of d x) (λ k. me.need s (read-at s (here k)) (λ z. me.ok (ref-v (place-of k z)) s)))
+  share-own t t-is nr nm2 e =
+      safe-need Q s (root-of d x) (λ k. me.need s (read-at s (here k)) (λ z. me.ok (ref-v (place-of k z)) s)) (pl .root) (pl .named)
+      (by-sh (pl .en .kind) (pl .type) (pl .at-sh) (pl .fine2))
     where
       ok1 : (readable (held ++ all-loans g) (v .name) ≡ true) × (typed (ref t) (loan (v .name) false ∷ []) g ≡ some r)
       ok1 = only-is (readable (held ++ all-loans g) (v .name)) (typed (ref t) (loan (v .name) false ∷ []) g) r e
@@ -170,29 +203,48 @@ module _ (q : Prog) (C : List Entry) (ln : List Level-loan) (held : List Loan) (
       a : Addr
       a = record { owner = pl .level; path = [] }
 
-      by-sh : (sh : Kind) → Kind-fits (v .ty) sh → at-level (kinds N) (pl .level) ≡ some sh → Fi sh → Safe Q (me.need s (read-at s (here (pl .root))) (λ z. me.ok (ref-v (place-of (pl .root) z)) s))
+      by-sh : (sh : Kind) → Kind-fits (v .ty) sh → at-level (kinds N) (pl .level) ≡ some sh → Fi sh
+          → Safe Q (me.need s (read-at s (here (pl .root))) (λ z. me.ok (ref-v (place-of (pl .root) z)) s))
       by-sh (borrow true u b ls) su at-sh fi = absurd (nm2 u (sym t-is ∙ su))
       by-sh (borrow false u b ls) su at-sh fi = absurd (true-false (ap is-ref (sym su ∙ t-is) ∙ nr))
       by-sh (own u) su at-sh fi =
-          safe-need Q s (read-at s (here (pl .root))) (λ z. me.ok (ref-v (place-of (pl .root) z)) s) (flat (pl .stands .tree)) (reads s (pl .root) (flat (pl .stands .tree)) 0 (fi .0))
+          safe-need Q s (read-at s (here (pl .root))) (λ z. me.ok (ref-v (place-of (pl .root) z)) s) (flat (pl .stands .tree))
+          (reads s (pl .root) (flat (pl .stands .tree)) 0 (fi .0))
           (subst (λ z. Q (ref-v z) s) (sym (place-flat (pl .root) (pl .stands .tree)))
-          (ref-after q C ln g d H F T s false u a (one-loan (pl .level) false) (ref-v (here (pl .root))) (ref t) (loan (v .name) false ∷ []) r (ok1 .1) (ap ref (sym t-is ∙ su .0)) (subst (λ z. Loans-cover (length C) ln g (loan z false ∷ []) (one-loan (pl .level) false)) (sym nm) (one-covered (length C) ln g x (pl .level) false (pl .levelled))) (sc .names)
+          (ref-after q C ln g d H F T s false u a (one-loan (pl .level) false) (ref-v (here (pl .root))) (ref t) (loan (v .name) false ∷ []) r
+          (ok1 .1) (ap ref (sym t-is ∙ su .0)) (subst (λ z. Loans-cover (length C) ln g (loan z false ∷ []) (one-loan (pl .level) false)) (sym nm)
+          (one-covered (length C) ln g x (pl .level) false (pl .levelled))) (sc .names)
           (push-loan ds N T s (pl .level) (own u) a a false u (ref-v (here (pl .root))) at-sh refl refl (prefix-self a)
-          (unobstructed-readable (kinds N) (w .borrows .exclusivity) (pl .level) (own u) a at-sh refl refl (readable-at ds C ln held g d H F T s x (pl .level) sc w (pl .levelled) (subst (λ z. readable (held ++ all-loans g) z ≡ true) nm (ok1 .0))) a (prefix-self a))
-          (record { root = pl .root; whole = pl .stands .tree; part = pl .stands .tree; standing = pl .place2; holding = pl .stands .holds; leading = refl; typed = not-gone ds (v .gone) u (pl .stands .tree) there1 (fi .3); value = refl }) w)))
+          (unobstructed-readable (kinds N) (w .borrows .exclusivity) (pl .level) (own u) a at-sh refl refl
+          (readable-at ds C ln held g d H F T s x (pl .level) sc w (pl .levelled)
+          (subst (λ z. readable (held ++ all-loans g) z ≡ true) nm (ok1 .0))) a (prefix-self a))
+          (record {
+            root = pl .root;
+            whole = pl .stands .tree;
+            part = pl .stands .tree;
+            standing = pl .place2;
+            holding = pl .stands .holds;
+            leading = refl;
+            typed = not-gone ds (v .gone) u (pl .stands .tree) there1 (fi .3);
+            value = refl;
+          }) w)))
       by-sh inert su at-sh fi = absurd su
 
-  as-shared : (t : Ty) → v .ty ≡ t → shared held g v t ≡ some r → Safe Q (me.need s (root-of d x) (λ k. me.need s (read-at s (here k)) (λ z. me.ok (ref-v (place-of k z)) s)))
+  as-shared : (t : Ty) → v .ty ≡ t → shared held g v t ≡ some r
+      → Safe Q (me.need s (root-of d x) (λ k. me.need s (read-at s (here k)) (λ z. me.ok (ref-v (place-of k z)) s)))
   as-shared int t-is e = share-own int t-is refl (λ u k. true-false (ap owned k)) e
   as-shared (dat i) t-is e = share-own (dat i) t-is refl (λ u k. true-false (ap owned k)) e
   as-shared (box t) t-is e = share-own (box t) t-is refl (λ u k. (let z : _≡_ {A = ℕ} 0 1 = cc in omega arith)) e
   as-shared (ref t) t-is e = absurd (no-some e)
-  as-shared (mut t) t-is e = safe-need Q s (root-of d x) (λ k. me.need s (read-at s (here k)) (λ z. me.ok (ref-v (place-of k z)) s)) (pl .root) (pl .named) (by-sh (pl .en .kind) (pl .type) (pl .at-sh) (pl .fine2))
+  as-shared (mut t) t-is e =
+      safe-need Q s (root-of d x) (λ k. me.need s (read-at s (here k)) (λ z. me.ok (ref-v (place-of k z)) s)) (pl .root) (pl .named)
+      (by-sh (pl .en .kind) (pl .type) (pl .at-sh) (pl .fine2))
     where
       ok1 : (readable (held ++ all-loans g) (v .name) ≡ true) × (typed (ref t) (loan (v .name) false ∷ []) g ≡ some r)
       ok1 = only-is (readable (held ++ all-loans g) (v .name)) (typed (ref t) (loan (v .name) false ∷ []) g) r e
 
-      by-sh : (sh : Kind) → Kind-fits (v .ty) sh → at-level (kinds N) (pl .level) ≡ some sh → Fi sh → Safe Q (me.need s (read-at s (here (pl .root))) (λ z. me.ok (ref-v (place-of (pl .root) z)) s))
+      by-sh : (sh : Kind) → Kind-fits (v .ty) sh → at-level (kinds N) (pl .level) ≡ some sh → Fi sh
+          → Safe Q (me.need s (read-at s (here (pl .root))) (λ z. me.ok (ref-v (place-of (pl .root) z)) s))
       by-sh (own u) su at-sh fi = absurd (true-false (sym (su .1) ∙ ap owned (sym (su .0) ∙ t-is)))
       by-sh (borrow false u a ls) su at-sh fi = absurd (true-false (sym (ap is-ref (sym t-is ∙ su))))
       by-sh (borrow true u a ls) su at-sh fi =
@@ -200,21 +252,30 @@ module _ (q : Prog) (C : List Entry) (ln : List Level-loan) (held : List Loan) (
           let loc : Loc = loc-down (here (pt .root)) (a .path) (pt .whole) in
           let mu : mut t ≡ mut u = sym t-is ∙ su in
           let tu : t ≡ u = cc in
-          safe-need Q s (read-at s (here (pl .root))) (λ z. me.ok (ref-v (place-of (pl .root) z)) s) (ref-v loc) (reads s (pl .root) (fi .1 .0) 0 (fi .1 .1) ∙ ap {B = Option Value} (λ z. some z) (pt .value))
-          (ref-after q C ln g d H F T s false u a (one-loan (pl .level) false) (ref-v loc) (ref t) (loan (v .name) false ∷ []) r (ok1 .1) (ap ref tu) (subst (λ z. Loans-cover (length C) ln g (loan z false ∷ []) (one-loan (pl .level) false)) (sym nm) (one-covered (length C) ln g x (pl .level) false (pl .levelled))) (sc .names)
+          safe-need Q s (read-at s (here (pl .root))) (λ z. me.ok (ref-v (place-of (pl .root) z)) s) (ref-v loc)
+          (reads s (pl .root) (fi .1 .0) 0 (fi .1 .1) ∙ ap {B = Option Value} (λ z. some z) (pt .value))
+          (ref-after q C ln g d H F T s false u a (one-loan (pl .level) false) (ref-v loc) (ref t) (loan (v .name) false ∷ []) r (ok1 .1) (ap ref tu)
+          (subst (λ z. Loans-cover (length C) ln g (loan z false ∷ []) (one-loan (pl .level) false)) (sym nm)
+          (one-covered (length C) ln g x (pl .level) false (pl .levelled))) (sc .names)
           (push-loan ds N T s (pl .level) (borrow true u a ls) a a false u (ref-v loc) at-sh refl refl (prefix-self a)
-          (unobstructed-readable (kinds N) (w .borrows .exclusivity) (pl .level) (borrow true u a ls) a at-sh refl refl (readable-at ds C ln held g d H F T s x (pl .level) sc w (pl .levelled) (subst (λ z. readable (held ++ all-loans g) z ≡ true) nm (ok1 .0))) a (prefix-self a))
+          (unobstructed-readable (kinds N) (w .borrows .exclusivity) (pl .level) (borrow true u a ls) a at-sh refl refl
+          (readable-at ds C ln held g d H F T s x (pl .level) sc w (pl .levelled)
+          (subst (λ z. readable (held ++ all-loans g) z ≡ true) nm (ok1 .0))) a (prefix-self a))
           (subst (Valid-ref ds N T u a) (pt .value) pt) w))
       by-sh inert su at-sh fi = absurd su
 
-pub var-step : (q : Prog) (m : Limits) (u : ℕ) (C : List Entry) (ln : List Level-loan) (held : List Loan) (g : ch.Env) (d : me.Env) (H F : List Entry) (T : List Tree) (s : State) (x : Lexeme) (r : ch.Typed) → ch.expr q held g (var x) ≡ some r → Frame C ln held g d H F → Invariant (q .datas) (H ++ (F ++ C)) T s → Safe (After-eval q C ln d H r (s .under)) (eval (suc u) m q d (var x) s)
+pub var-step : (q : Prog) (m : Limits) (u : ℕ) (C : List Entry) (ln : List Level-loan) (held : List Loan) (g : ch.Env) (d : me.Env) (H F : List Entry)
+    (T : List Tree) (s : State) (x : Lexeme) (r : ch.Typed) → ch.expr q held g (var x) ≡ some r → Frame C ln held g d H F
+    → Invariant (q .datas) (H ++ (F ++ C)) T s → Safe (After-eval q C ln d H r (s .under)) (eval (suc u) m q d (var x) s)
 unfolding me.eval
 var-step q m u C ln held g d H F T s x r e sc w =
     let y = if-some-is (ch.there g x) (λ v. value held g v (v .ty)) r e in
     let th = there-is g x (y .0) (y .1) in
     as-value q C ln held g d H F T s x r (y .0) (th .0) (th .1) sc w (y .0 .ty) refl (y .2)
 
-pub share-step : (q : Prog) (m : Limits) (u : ℕ) (C : List Entry) (ln : List Level-loan) (held : List Loan) (g : ch.Env) (d : me.Env) (H F : List Entry) (T : List Tree) (s : State) (x : Lexeme) (r : ch.Typed) → ch.expr q held g (share x) ≡ some r → Frame C ln held g d H F → Invariant (q .datas) (H ++ (F ++ C)) T s → Safe (After-eval q C ln d H r (s .under)) (eval (suc u) m q d (share x) s)
+pub share-step : (q : Prog) (m : Limits) (u : ℕ) (C : List Entry) (ln : List Level-loan) (held : List Loan) (g : ch.Env) (d : me.Env)
+    (H F : List Entry) (T : List Tree) (s : State) (x : Lexeme) (r : ch.Typed) → ch.expr q held g (share x) ≡ some r → Frame C ln held g d H F
+    → Invariant (q .datas) (H ++ (F ++ C)) T s → Safe (After-eval q C ln d H r (s .under)) (eval (suc u) m q d (share x) s)
 unfolding me.eval
 share-step q m u C ln held g d H F T s x r e sc w =
     let y = if-some-is (ch.there g x) (λ v. shared held g v (v .ty)) r e in

@@ -21,7 +21,9 @@ use Rattle.soundness.proofs.invariant.Borrows.{borrow-entry}
 use Rattle.soundness.proofs.frames.Covers.{cover-same}
 
 -- an expression whose value is a number
-pub int-after : (q : Prog) (C : List Entry) (ln : List Level-loan) (g : ch.Env) (d : me.Env) (H F : List Entry) (T : List Tree) (s : State) (k j : ℕ) (r : ch.Typed) → ch.typed int [] g ≡ some r → Scope (length C) ln g d F → Invariant (q .datas) (H ++ (F ++ C)) T s → s .under ≡ j → After-eval q C ln d H r j (int-v k) s
+pub int-after : (q : Prog) (C : List Entry) (ln : List Level-loan) (g : ch.Env) (d : me.Env) (H F : List Entry) (T : List Tree) (s : State) (k j : ℕ)
+    (r : ch.Typed) → ch.typed int [] g ≡ some r → Scope (length C) ln g d F → Invariant (q .datas) (H ++ (F ++ C)) T s → s .under ≡ j
+    → After-eval q C ln d H r j (int-v k) s
 int-after q C ln g d H F T s k j r e mt w un = record {
   top = owned-entry (int-t k) int;
   F = F;
@@ -37,11 +39,16 @@ int-after q C ln g d H F T s k j r e mt w un = record {
     r-is = some-is e
 
 -- a scene goes on behind an expression
-pub frame-after : (C : List Entry) (ln : List Level-loan) (held : List Loan) (g g2 : ch.Env) (d : me.Env) (H F F2 : List Entry) → Frame C ln held g d H F → Scope (length C) ln g2 d F2 → Frame C ln held g2 d H F2
-frame-after C ln held g g2 d H F F2 sc mt = record { names = mt; above = cover-same (length C) ln g g2 d F F2 (sc .names) mt held (all-loans-of H) (sc .above); under = sc .under }
+pub frame-after : (C : List Entry) (ln : List Level-loan) (held : List Loan) (g g2 : ch.Env) (d : me.Env) (H F F2 : List Entry)
+    → Frame C ln held g d H F → Scope (length C) ln g2 d F2 → Frame C ln held g2 d H F2
+frame-after C ln held g g2 d H F F2 sc mt =
+    record { names = mt; above = cover-same (length C) ln g g2 d F F2 (sc .names) mt held (all-loans-of H) (sc .above); under = sc .under }
 
 -- an expression whose value is a reference
-pub ref-after : (q : Prog) (C : List Entry) (ln : List Level-loan) (g : ch.Env) (d : me.Env) (H F : List Entry) (T : List Tree) (s : State) (al : Bool) (t : Ty) (a : Addr) (L : List Level-loan) (v : Value) (ty : Ty) (ls : List Loan) (r : ch.Typed) → typed ty ls g ≡ some r → Kind-fits ty (borrow al t a L) → Loans-cover (length C) ln g ls L → Scope (length C) ln g d F → Invariant (q .datas) (borrow-entry al t a L v ∷ (H ++ (F ++ C))) (hole-t ∷ T) s → After-eval q C ln d H r (s .under) v s
+pub ref-after : (q : Prog) (C : List Entry) (ln : List Level-loan) (g : ch.Env) (d : me.Env) (H F : List Entry) (T : List Tree) (s : State)
+    (al : Bool) (t : Ty) (a : Addr) (L : List Level-loan) (v : Value) (ty : Ty) (ls : List Loan) (r : ch.Typed) → typed ty ls g ≡ some r
+    → Kind-fits ty (borrow al t a L) → Loans-cover (length C) ln g ls L → Scope (length C) ln g d F
+    → Invariant (q .datas) (borrow-entry al t a L v ∷ (H ++ (F ++ C))) (hole-t ∷ T) s → After-eval q C ln d H r (s .under) v s
 ref-after q C ln g d H F T s al t a L v ty ls r e su cov mt w = record {
   top = borrow-entry al t a L v;
   F = F;

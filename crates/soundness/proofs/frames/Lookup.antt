@@ -21,7 +21,8 @@ use Rattle.soundness.proofs.invariant.Borrows.{one-loan}
 use Rattle.soundness.proofs.frames.Names.{not-lent-by-name, free-not-among, readable-not-among, Name-entry, name-entry}
 
 -- WHAT STANDS AT A NAME, in the whole stack
-pub record Name-at (ds : List Data) (C : List Entry) (ln : List Level-loan) (g : ch.Env) (d : me.Env) (H F : List Entry) (T : List Tree) (s : State) (x : Lexeme) (v : Var) : Type 0 where
+pub record Name-at (ds : List Data) (C : List Entry) (ln : List Level-loan) (g : ch.Env) (d : me.Env) (H F : List Entry) (T : List Tree) (s : State)
+    (x : Lexeme) (v : Var) : Type 0 where
   pub level : ℕ
   pub en : Entry
   pub root : ℕ
@@ -34,7 +35,9 @@ pub record Name-at (ds : List Data) (C : List Entry) (ln : List Level-loan) (g :
   pub fine2 : Entry-ok ds (s .roots) (rooted root 0) (v .gone) (en .kind) (stands .tree) (H ++ (F ++ C)) T
   pub place2 : at-level (places (H ++ (F ++ C))) level ≡ some (rooted root 0)
 
-pub name-at : (ds : List Data) (C : List Entry) (ln : List Level-loan) (held : List Loan) (g : ch.Env) (d : me.Env) (H F : List Entry) (T : List Tree) (s : State) (x : Lexeme) (v : Var) → Frame C ln held g d H F → Invariant ds (H ++ (F ++ C)) T s → look g x ≡ some v → Name-at ds C ln g d H F T s x v
+pub name-at : (ds : List Data) (C : List Entry) (ln : List Level-loan) (held : List Loan) (g : ch.Env) (d : me.Env) (H F : List Entry) (T : List Tree)
+    (s : State) (x : Lexeme) (v : Var) → Frame C ln held g d H F → Invariant ds (H ++ (F ++ C)) T s → look g x ≡ some v
+    → Name-at ds C ln g d H F T s x v
 name-at ds C ln held g d H F T s x v sc w lk = record {
   level = en .level;
   en = en .en;
@@ -45,7 +48,9 @@ name-at ds C ln held g d H F T s x v sc w lk = record {
   type = en .type;
   loans = en .loans;
   stands = st;
-  fine2 = subst (λ k. Entry-ok ds (s .roots) k (v .gone) (en .en .kind) (st .tree) N T) (en .placed) (subst (λ k. Entry-ok ds (s .roots) (en .en .at) k (en .en .kind) (st .tree) N T) (en .flag) (st .fine1));
+  fine2 =
+      subst (λ k. Entry-ok ds (s .roots) k (v .gone) (en .en .kind) (st .tree) N T) (en .placed)
+      (subst (λ k. Entry-ok ds (s .roots) (en .en .at) k (en .en .kind) (st .tree) N T) (en .flag) (st .fine1));
   place2 = st .place ∙ ap {B = Option Place} (λ z. some z) (en .placed);
 }
   where
@@ -62,12 +67,22 @@ name-at ds C ln held g d H F T s x v sc w lk = record {
     st = entry-at ds (s .roots) N T (en .level) (en .en) (w .fine) at-N
 
 -- free and readable, at the name's level
-pub free-at : (ds : List Data) (C : List Entry) (ln : List Level-loan) (held : List Loan) (g : ch.Env) (d : me.Env) (H F : List Entry) (T : List Tree) (s : State) (x : Lexeme) (lx : ℕ) → Frame C ln held g d H F → Invariant ds (H ++ (F ++ C)) T s → name-level (length C) g x ≡ some lx → is-free (held ++ all-loans g) x ≡ true → Lent (kinds (H ++ (F ++ C))) lx false → ⊥
-free-at ds C ln held g d H F T s x lx sc w e fr = not-lent-by-name C ln held g d H F x lx false sc (anchored-under F C (anchored-under H (F ++ C) (w .borrows .anchored))) e (free-not-among (held ++ all-loans g) x fr)
+pub free-at : (ds : List Data) (C : List Entry) (ln : List Level-loan) (held : List Loan) (g : ch.Env) (d : me.Env) (H F : List Entry) (T : List Tree)
+    (s : State) (x : Lexeme) (lx : ℕ) → Frame C ln held g d H F → Invariant ds (H ++ (F ++ C)) T s → name-level (length C) g x ≡ some lx
+    → is-free (held ++ all-loans g) x ≡ true → Lent (kinds (H ++ (F ++ C))) lx false → ⊥
+free-at ds C ln held g d H F T s x lx sc w e fr =
+    not-lent-by-name C ln held g d H F x lx false sc (anchored-under F C (anchored-under H (F ++ C) (w .borrows .anchored))) e
+    (free-not-among (held ++ all-loans g) x fr)
 
-pub readable-at : (ds : List Data) (C : List Entry) (ln : List Level-loan) (held : List Loan) (g : ch.Env) (d : me.Env) (H F : List Entry) (T : List Tree) (s : State) (x : Lexeme) (lx : ℕ) → Frame C ln held g d H F → Invariant ds (H ++ (F ++ C)) T s → name-level (length C) g x ≡ some lx → readable (held ++ all-loans g) x ≡ true → Lent (kinds (H ++ (F ++ C))) lx true → ⊥
-readable-at ds C ln held g d H F T s x lx sc w e fr = not-lent-by-name C ln held g d H F x lx true sc (anchored-under F C (anchored-under H (F ++ C) (w .borrows .anchored))) e (readable-not-among (held ++ all-loans g) x fr)
+pub readable-at : (ds : List Data) (C : List Entry) (ln : List Level-loan) (held : List Loan) (g : ch.Env) (d : me.Env) (H F : List Entry)
+    (T : List Tree) (s : State) (x : Lexeme) (lx : ℕ) → Frame C ln held g d H F → Invariant ds (H ++ (F ++ C)) T s
+    → name-level (length C) g x ≡ some lx → readable (held ++ all-loans g) x ≡ true → Lent (kinds (H ++ (F ++ C))) lx true → ⊥
+readable-at ds C ln held g d H F T s x lx sc w e fr =
+    not-lent-by-name C ln held g d H F x lx true sc (anchored-under F C (anchored-under H (F ++ C) (w .borrows .anchored))) e
+    (readable-not-among (held ++ all-loans g) x fr)
 
 -- the loan of a name is covered by the rule's
-pub one-covered : (base : ℕ) (ln : List Level-loan) (g : ch.Env) (x : Lexeme) (lx : ℕ) (al : Bool) → name-level base g x ≡ some lx → Loans-cover base ln g (loan x al ∷ []) (one-loan lx al)
-one-covered base ln g x lx al e l i = elim i [ inl k ↦ inr (x, e ∙ ap {B = Option ℕ} (λ z. some (z .level)) (sym k), inl (ap (λ z. loan x (z .alone)) k)) | inr k ↦ absurd k ]
+pub one-covered : (base : ℕ) (ln : List Level-loan) (g : ch.Env) (x : Lexeme) (lx : ℕ) (al : Bool) → name-level base g x ≡ some lx
+    → Loans-cover base ln g (loan x al ∷ []) (one-loan lx al)
+one-covered base ln g x lx al e l i =
+    elim i [ inl k ↦ inr (x, e ∙ ap {B = Option ℕ} (λ z. some (z .level)) (sym k), inl (ap (λ z. loan x (z .alone)) k)) | inr k ↦ absurd k ]

@@ -14,7 +14,9 @@ use Rattle.soundness.specs.Frames.{Scope, Roots-named}
 -- the names newer than h, on top of it
 pub newer-is : (k h : me.Env) → newer (k ++ h) h ≡ k
 newer-is [] h = let e : length h - length h ≡ 0 = omega arith in rw e refl
-newer-is (m ∷ k) h = let r = newer-is k h in let z = length-append k h in let e : suc (length (k ++ h)) - length h ≡ suc (length (k ++ h) - length h) = omega arith in rw e (ap (λ y. m ∷ y) r)
+newer-is (m ∷ k) h =
+    let r = newer-is k h in
+    let z = length-append k h in let e : suc (length (k ++ h)) - length h ≡ suc (length (k ++ h) - length h) = omega arith in rw e (ap (λ y. m ∷ y) r)
 
 pub scope-names : (base : ℕ) (ln : List Level-loan) (g : ch.Env) (d : me.Env) (F : List Entry) → Scope base ln g d F → length g ≡ length d
 scope-names base ln [] [] F h = refl
@@ -34,15 +36,26 @@ pub record Parted (base : ℕ) (ln : List Level-loan) (g : ch.Env) (k h : me.Env
   pub named : Roots-named k F1
   pub names : Scope base ln g2 h F2
 
-pub scope-parted : (base : ℕ) (ln : List Level-loan) (g : ch.Env) (k h : me.Env) (F : List Entry) → Scope base ln g (k ++ h) F → Parted base ln g k h F
+pub scope-parted : (base : ℕ) (ln : List Level-loan) (g : ch.Env) (k h : me.Env) (F : List Entry) → Scope base ln g (k ++ h) F
+    → Parted base ln g k h F
 scope-parted base ln g [] h F mt = record { g1 = []; g2 = g; F1 = []; F2 = F; g-is = refl; F-is = refl; named = tt; names = mt }
 scope-parted base ln [] (m ∷ k) h F mt = absurd mt
 scope-parted base ln (v ∷ g) (m ∷ k) h [] mt = absurd mt
 scope-parted base ln (v ∷ g) (m ∷ k) h (e ∷ F) mt =
     let r = scope-parted base ln g k h F (mt .1) in
-    record { g1 = v ∷ r .g1; g2 = r .g2; F1 = e ∷ r .F1; F2 = r .F2; g-is = ap (λ z. v ∷ z) (r .g-is); F-is = ap (λ z. e ∷ z) (r .F-is); named = (mt .0 .place, r .named); names = r .names }
+    record {
+      g1 = v ∷ r .g1;
+      g2 = r .g2;
+      F1 = e ∷ r .F1;
+      F2 = r .F2;
+      g-is = ap (λ z. v ∷ z) (r .g-is);
+      F-is = ap (λ z. e ∷ z) (r .F-is);
+      named = (mt .0 .place, r .named);
+      names = r .names;
+    }
 
-pub roots-parted : (k h : me.Env) (F : List Entry) → Roots-named (k ++ h) F → (F1 : List Entry) × (F2 : List Entry) × (F ≡ F1 ++ F2) × Roots-named k F1 × Roots-named h F2
+pub roots-parted : (k h : me.Env) (F : List Entry) → Roots-named (k ++ h) F
+    → (F1 : List Entry) × (F2 : List Entry) × (F ≡ F1 ++ F2) × Roots-named k F1 × Roots-named h F2
 roots-parted [] h F nm = ([], F, refl, tt, nm)
 roots-parted (m ∷ k) h [] nm = absurd nm
 roots-parted (m ∷ k) h (e ∷ F) nm = let r = roots-parted k h F (nm .1) in (e ∷ r .0, r .1, ap (λ z. e ∷ z) (r .2), (nm .0, r .3), r .4)

@@ -31,7 +31,8 @@ pub turn-⊑ : {A : Type 0} {f f′ : State → Res A} (m : Limits) (s : State) 
 unfolding turn
 turn-⊑ m s h = choose-⊑ (ltb (s .turns) (m .max-turns)) (h _) alike
 
-pub under-⊑ : {A : Type 0} {f f′ : State → Res A} (m : Limits) (k : ℕ) (s : State) → ((t : State) → f t ⊑ f′ t) → goes-under m k s f ⊑ goes-under m k s f′
+pub under-⊑ : {A : Type 0} {f f′ : State → Res A} (m : Limits) (k : ℕ) (s : State) → ((t : State) → f t ⊑ f′ t)
+    → goes-under m k s f ⊑ goes-under m k s f′
 unfolding goes-under
 under-⊑ m k s h = choose-⊑ (leb (s .under + k) (m .stack)) (then-⊑ (h _) (λ a t. alike)) alike
 

@@ -39,25 +39,29 @@ weaken-fine k (well-stop h) = well-stop h
 pub weaken : {A : Type 0} {R R′ : State → Type 0} {f : ℕ → Res A} → ((t : State) → R t → R′ t) → Halts R f → Halts R′ f
 weaken k h = record { gives = h .gives; with-fuel = h .with-fuel; settled = h .settled; fine = weaken-fine k (h .fine) }
 
-then-go : {A C : Type 0} {R R′ : State → Type 0} (f : ℕ → Res A) (k : ℕ → A → State → Res C) (r : Res A) (j : ℕ) → ((w : ℕ) → j ≤ w → f w ≡ r) → Settled-well R r → ((a : A) (t : State) → R t → Halts R′ (λ u. k u a t)) → Halts R′ (λ u. then (f u) (k u))
+then-go : {A C : Type 0} {R R′ : State → Type 0} (f : ℕ → Res A) (k : ℕ → A → State → Res C) (r : Res A) (j : ℕ) → ((w : ℕ) → j ≤ w → f w ≡ r)
+    → Settled-well R r → ((a : A) (t : State) → R t → Halts R′ (λ u. k u a t)) → Halts R′ (λ u. then (f u) (k u))
 unfolding then
 then-go f k (ok a t) j e (well-ok h) g =
     let x = g a t h in
     record { gives = x .gives; with-fuel = j + x .with-fuel; settled = λ w l. rw (e w (omega arith)) (x .settled w (omega arith)); fine = x .fine }
 then-go f k (stop i t) j e (well-stop h) g = record { gives = stop i t; with-fuel = j; settled = λ w l. rw (e w l) refl; fine = well-stop h }
 
-pub then-halts : {A C : Type 0} {R R′ : State → Type 0} {f : ℕ → Res A} {k : ℕ → A → State → Res C} → Halts R f → ((a : A) (t : State) → R t → Halts R′ (λ u. k u a t)) → Halts R′ (λ u. then (f u) (k u))
+pub then-halts : {A C : Type 0} {R R′ : State → Type 0} {f : ℕ → Res A} {k : ℕ → A → State → Res C} → Halts R f
+    → ((a : A) (t : State) → R t → Halts R′ (λ u. k u a t)) → Halts R′ (λ u. then (f u) (k u))
 then-halts {f = f} {k = k} h g = then-go f k (h .gives) (h .with-fuel) (h .settled) (h .fine) g
 
 pub wrong-not : wrong ≡ out-of-fuel → ⊥
 wrong-not e = grind arith
 
-pub need-halts : {A C : Type 0} {R : State → Type 0} (s : State) (o : Option A) {f : ℕ → A → Res C} → ((a : A) → o ≡ some a → Halts R (λ u. f u a)) → Halts R (λ u. need s o (f u))
+pub need-halts : {A C : Type 0} {R : State → Type 0} (s : State) (o : Option A) {f : ℕ → A → Res C} → ((a : A) → o ≡ some a → Halts R (λ u. f u a))
+    → Halts R (λ u. need s o (f u))
 unfolding need
 need-halts s none h = at-once (well-stop wrong-not)
 need-halts s (some a) h = h a refl
 
-pub choose-halts : {A : Type 0} {R : State → Type 0} (t : Bool) {x y : ℕ → Res A} → (t ≡ true → Halts R x) → (t ≡ false → Halts R y) → Halts R (λ u. choose t (x u) (y u))
+pub choose-halts : {A : Type 0} {R : State → Type 0} (t : Bool) {x y : ℕ → Res A} → (t ≡ true → Halts R x) → (t ≡ false → Halts R y)
+    → Halts R (λ u. choose t (x u) (y u))
 choose-halts true h k = h refl
 choose-halts false h k = k refl
 
@@ -77,20 +81,31 @@ less-room s h = let e = h .is-level in let r = h .room in record { turns-left = 
 pub lower-room : {m : Limits} {T K j : ℕ} → suc j ≡ T → (s : State) → Room m j K s → Room m T K s
 lower-room e s r = record { turns-left = omega arith; words-left = omega arith }
 
-pub turn-halts : {A : Type 0} {R : State → Type 0} (m : Limits) (T K : ℕ) (s : State) {f : ℕ → State → Res A} → Room m T K s → ((j : ℕ) → suc j ≡ T → (t : State) → Room m j K t → Halts R (λ u. f u t)) → Halts R (λ u. turn m s (f u))
+pub turn-halts : {A : Type 0} {R : State → Type 0} (m : Limits) (T K : ℕ) (s : State) {f : ℕ → State → Res A} → Room m T K s
+    → ((j : ℕ) → suc j ≡ T → (t : State) → Room m j K t → Halts R (λ u. f u t)) → Halts R (λ u. turn m s (f u))
 unfolding turn
 turn-halts m zero K s r h = choose-halts (ltb (s .turns) (m .max-turns)) (λ e. absurd (grind arith)) (λ e. at-once (well-stop (λ x. grind arith)))
-turn-halts m (suc T) K s r h = choose-halts (ltb (s .turns) (m .max-turns)) (λ e. h T refl _ (record { turns-left = omega arith; words-left = r .words-left })) (λ e. at-once (well-stop (λ x. grind arith)))
+turn-halts m (suc T) K s r h =
+    choose-halts (ltb (s .turns) (m .max-turns)) (λ e. h T refl _ (record { turns-left = omega arith; words-left = r .words-left }))
+    (λ e. at-once (well-stop (λ x. grind arith)))
 
-pub call-under : {A : Type 0} (m : Limits) (T K k : ℕ) (s : State) {f : ℕ → State → Res A} → Room m T K s → ((t : State) → Room m T K t → Halts (Room m T K) (λ u. f u t)) → Halts (Room m T K) (λ u. goes-under m k s (f u))
+pub call-under : {A : Type 0} (m : Limits) (T K k : ℕ) (s : State) {f : ℕ → State → Res A} → Room m T K s
+    → ((t : State) → Room m T K t → Halts (Room m T K) (λ u. f u t)) → Halts (Room m T K) (λ u. goes-under m k s (f u))
 unfolding goes-under
-call-under m T K k s r h = choose-halts (leb (s .under + k) (m .stack)) (λ e. then-halts (h (with-under s (s .under + k)) (record { turns-left = r .turns-left; words-left = omega arith })) (λ a t x. ok-halts (record { turns-left = x .turns-left; words-left = r .words-left }))) (λ e. at-once (well-stop (λ x. grind arith)))
+call-under m T K k s r h =
+    choose-halts (leb (s .under + k) (m .stack))
+    (λ e. then-halts (h (with-under s (s .under + k)) (record { turns-left = r .turns-left; words-left = omega arith }))
+    (λ a t x. ok-halts (record { turns-left = x .turns-left; words-left = r .words-left }))) (λ e. at-once (well-stop (λ x. grind arith)))
 
 -- eight words: fewer are left inside
-pub drop-under : {A : Type 0} (m : Limits) (T K : ℕ) (s : State) {f : ℕ → State → Res A} → Room m T K s → ((j : ℕ) → suc j ≡ K → (t : State) → Room m T j t → Halts (Room m T j) (λ u. f u t)) → Halts (Room m T K) (λ u. goes-under m 8 s (f u))
+pub drop-under : {A : Type 0} (m : Limits) (T K : ℕ) (s : State) {f : ℕ → State → Res A} → Room m T K s
+    → ((j : ℕ) → suc j ≡ K → (t : State) → Room m T j t → Halts (Room m T j) (λ u. f u t)) → Halts (Room m T K) (λ u. goes-under m 8 s (f u))
 unfolding goes-under
 drop-under m T zero s r h = choose-halts (leb (s .under + 8) (m .stack)) (λ e. absurd (grind arith)) (λ e. at-once (well-stop (λ x. grind arith)))
-drop-under m T (suc K) s r h = choose-halts (leb (s .under + 8) (m .stack)) (λ e. then-halts (h K refl (with-under s (s .under + 8)) (record { turns-left = r .turns-left; words-left = omega arith })) (λ a t x. ok-halts (record { turns-left = x .turns-left; words-left = r .words-left }))) (λ e. at-once (well-stop (λ x. grind arith)))
+drop-under m T (suc K) s r h =
+    choose-halts (leb (s .under + 8) (m .stack))
+    (λ e. then-halts (h K refl (with-under s (s .under + 8)) (record { turns-left = r .turns-left; words-left = omega arith }))
+    (λ a t x. ok-halts (record { turns-left = x .turns-left; words-left = r .words-left }))) (λ e. at-once (well-stop (λ x. grind arith)))
 
 -- what changes memory alone leaves as much
 pub room-by : {m : Limits} {T K : ℕ} {s t : State} → s ≼ t → Room m T K s → Room m T K t

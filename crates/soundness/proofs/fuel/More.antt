@@ -45,7 +45,8 @@ module _ (m : Limits) (q : Prog) where
     tails-up (suc-le-suc h) g (give-cond e d f) s = search (ups, eval-up h, bodies-up h) depth 12
     tails-up (suc-le-suc h) g (give-match w x as₁) s = search (ups, by-shape-up h) depth 12
 
-    pub by-shape-up : {u w : ℕ} → u ≤ w → (g : Env) (y1 : Access) (l : Loc) (as₁ : Arms) (y : Shape) (s : State) → by-shape u m q g y1 l as₁ y s ⊑ by-shape w m q g y1 l as₁ y s
+    pub by-shape-up : {u w : ℕ} → u ≤ w → (g : Env) (y1 : Access) (l : Loc) (as₁ : Arms) (y : Shape) (s : State)
+        → by-shape u m q g y1 l as₁ y s ⊑ by-shape w m q g y1 l as₁ y s
     by-shape-up zero-le g w l as₁ y s = is-late
     by-shape-up (suc-le-suc h) g w l as₁ (shape k vs) s = search (ups, bodies-up h) depth 12
 
@@ -70,7 +71,8 @@ module _ (m : Limits) (q : Prog) where
     exec-up (suc-le-suc h) g (open-s x y) s = alike
     exec-up (suc-le-suc h) g (inside x y) s = alike
 
-    pub by-alt-up : {u w : ℕ} → u ≤ w → (g : Env) (y1 : Access) (l : Loc) (as₁ : Alts) (y : Shape) (s : State) → by-alt u m q g y1 l as₁ y s ⊑ by-alt w m q g y1 l as₁ y s
+    pub by-alt-up : {u w : ℕ} → u ≤ w → (g : Env) (y1 : Access) (l : Loc) (as₁ : Alts) (y : Shape) (s : State)
+        → by-alt u m q g y1 l as₁ y s ⊑ by-alt w m q g y1 l as₁ y s
     by-alt-up zero-le g w l as₁ y s = is-late
     by-alt-up (suc-le-suc h) g w l as₁ (shape k vs) s = search (ups, block-up h) depth 12
 

@@ -33,7 +33,8 @@ flats-snoc : (xs : Trees) (x : Tree) → append (flats xs) (flat x) ≡ flats (s
 flats-snoc nil-t x = refl
 flats-snoc (cons-t y ys) x = ap (cons-v (flat y)) (flats-snoc ys x)
 
-typed-all-snoc : (ds : List Data) (xs : Trees) (ts : List Ty) (x : Tree) (t : Ty) → Typed-all ds xs ts → Typed ds x t → Typed-all ds (snoc xs x) (ts ++ (t ∷ []))
+typed-all-snoc : (ds : List Data) (xs : Trees) (ts : List Ty) (x : Tree) (t : Ty) → Typed-all ds xs ts → Typed ds x t
+    → Typed-all ds (snoc xs x) (ts ++ (t ∷ []))
 typed-all-snoc ds nil-t [] x t h k = (k, tt)
 typed-all-snoc ds nil-t (u ∷ ts) x t h k = absurd h
 typed-all-snoc ds (cons-t y ys) [] x t h k = absurd h
@@ -49,7 +50,9 @@ sum-snoc f (cons-t y ys) x = let k = sum-snoc f ys x in omega arith
 
 each-front : (ts : List Ty) (t : Ty) → each-of owned (ts ++ (t ∷ [])) ≡ true → (each-of owned ts ≡ true) × (owned t ≡ true)
 each-front [] t e = (refl, and-left (owned t) true e)
-each-front (u ∷ ts) t e = let k = each-front ts t (and-right (owned u) (each-of owned (ts ++ (t ∷ []))) e) in (ap (λ z. z && each-of owned ts) (and-left (owned u) (each-of owned (ts ++ (t ∷ []))) e) ∙ k .0, k .1)
+each-front (u ∷ ts) t e =
+    let k = each-front ts t (and-right (owned u) (each-of owned (ts ++ (t ∷ []))) e) in
+    (ap (λ z. z && each-of owned ts) (and-left (owned u) (each-of owned (ts ++ (t ∷ []))) e) ∙ k .0, k .1)
 
 -- arguments of owned types, gathered: their trees from the first on
 pub record Gathered (ds : List Data) (rs : List Root) (N A : List Entry) (ts : List Ty) (vs : Values) (T : List Tree) : Type 0 where
@@ -61,8 +64,10 @@ pub record Gathered (ds : List Data) (rs : List Root) (N A : List Entry) (ts : L
   pub fine : Entries-ok ds rs N rest
   pub sums : (f : ℕ → ℕ → ℕ) → stack-sum f (A ++ N) T ≡ trees-sum f parts + stack-sum f N rest
 
-pub gather : (ds : List Data) (rs : List Root) (N A : List Entry) (ts : List Ty) (vs : Values) (T : List Tree) → Arguments A ts vs → each-of owned ts ≡ true → Entries-ok ds rs (A ++ N) T → Gathered ds rs N A ts vs T
-gather ds rs N [] [] nil-v T no-args ow fi = record { parts = nil-t; rest = T; values = refl; typeds = tt; storeds = tt; fine = fi; sums = λ f. (omega arith) }
+pub gather : (ds : List Data) (rs : List Root) (N A : List Entry) (ts : List Ty) (vs : Values) (T : List Tree) → Arguments A ts vs
+    → each-of owned ts ≡ true → Entries-ok ds rs (A ++ N) T → Gathered ds rs N A ts vs T
+gather ds rs N [] [] nil-v T no-args ow fi =
+    record { parts = nil-t; rest = T; values = refl; typeds = tt; storeds = tt; fine = fi; sums = λ f. (omega arith) }
 gather ds rs N A ts vs [] (snoc-arg e t v fl fg) ow fi = absurd fi
 gather ds rs N A ts vs (x ∷ T) (snoc-arg {A = A1} {ts = ts1} {vs = vs1} e t v fl fg) ow fi =
     let o = each-front ts1 t ow in
@@ -75,11 +80,15 @@ gather ds rs N A ts vs (x ∷ T) (snoc-arg {A = A1} {ts = ts1} {vs = vs1} e t v 
       typeds = typed-all-snoc ds (h .parts) ts1 x t (h .typeds) (k .2);
       storeds = stored-all-snoc rs (h .parts) x (h .storeds) (k .1);
       fine = h .fine;
-      sums = λ f. (let a = h .sums f in let a1 = sum-snoc f (h .parts) x in let a2 : place-sum f (e .at) ≡ 0 = ap (place-sum f) (fg .place) in omega arith);
+      sums =
+          λ f. (let a = h .sums f in let a1 = sum-snoc f (h .parts) x in let a2 : place-sum f (e .at) ≡ 0 = ap (place-sum f)
+          (fg .place) in omega arith);
     }
 
 -- the inverse of open-con
-pub make-con : (ds : List Data) (N A : List Entry) (ts : List Ty) (vs : Values) (T : List Tree) (s : State) (k : Lexeme) (h : Home) → home-of ds k ≡ some h → ts ≡ h .ctor1 .fields → Arguments A ts vs → each-of owned ts ≡ true → Invariant ds (A ++ N) T s → (xs : Trees) × (U : List Tree) × (vs ≡ flats xs) × Invariant ds (owned-entry (con-t k xs) (dat (h .data1 .name)) ∷ N) (con-t k xs ∷ U) s
+pub make-con : (ds : List Data) (N A : List Entry) (ts : List Ty) (vs : Values) (T : List Tree) (s : State) (k : Lexeme) (h : Home)
+    → home-of ds k ≡ some h → ts ≡ h .ctor1 .fields → Arguments A ts vs → each-of owned ts ≡ true → Invariant ds (A ++ N) T s
+    → (xs : Trees) × (U : List Tree) × (vs ≡ flats xs) × Invariant ds (owned-entry (con-t k xs) (dat (h .data1 .name)) ∷ N) (con-t k xs ∷ U) s
 make-con ds N A ts vs T s k h hm t-is fl ow w =
     let y = gather ds (s .roots) N A ts vs T fl ow (w .fine) in (
       y .parts,
@@ -109,7 +118,9 @@ words-is q (int-t k) (box t) ty = absurd ty
 words-is q (int-t k) (ref t) ty = absurd ty
 words-is q (int-t k) (mut t) ty = absurd ty
 words-is q (con-t k ts) int ty = absurd ty
-words-is q (con-t k ts) (dat d) ty = ap (λ o. from-option o 1 (λ h. from-option (size-of (q .datas) (dat (h .data1 .name))) 1 (λ z. z))) (ty .1) ∙ ap (λ y. from-option (size-of (q .datas) (dat y)) 1 (λ z. z)) (ty .2)
+words-is q (con-t k ts) (dat d) ty =
+    ap (λ o. from-option o 1 (λ h. from-option (size-of (q .datas) (dat (h .data1 .name))) 1 (λ z. z))) (ty .1) ∙ ap
+    (λ y. from-option (size-of (q .datas) (dat y)) 1 (λ z. z)) (ty .2)
 words-is q (con-t k ts) (box t) ty = absurd ty
 words-is q (con-t k ts) (ref t) ty = absurd ty
 words-is q (con-t k ts) (mut t) ty = absurd ty
@@ -131,12 +142,21 @@ in-use-in (x ∷ xs) k j = go (eqb (x .words) k) (λ t. eqb→eq (x .words) k t)
     here1 true = omega arith
     here1 false = omega arith
 
-    off : (z1 z2 : Bool) → (lib.Dec.T z1 → x .words ≡ j) → (lib.Dec.T z2 → k ≡ j) → (x .words ≡ k → ⊥) → in-use-of (count-in xs k) j ≡ in-use-of xs j + choose z2 1 0 → choose z1 (x .in-use) (in-use-of (count-in xs k) j) ≡ choose z1 (x .in-use) (in-use-of xs j) + choose z2 1 0
+    off : (z1 z2 : Bool) → (lib.Dec.T z1 → x .words ≡ j) → (lib.Dec.T z2 → k ≡ j) → (x .words ≡ k → ⊥)
+        → in-use-of (count-in xs k) j ≡ in-use-of xs j + choose z2 1 0
+        → choose z1 (x .in-use) (in-use-of (count-in xs k) j) ≡ choose z1 (x .in-use) (in-use-of xs j) + choose z2 1 0
     off true true a d ne ih = absurd (ne (a tt ∙ sym (d tt)))
     off true false a d ne ih = omega arith
     off false z2 a d ne ih = ih
 
-    go : (z : Bool) → (lib.Dec.T z → x .words ≡ k) → (x .words ≡ k → lib.Dec.T z) → in-use-of (count-in xs k) j ≡ in-use-of xs j + choose (eqb k j) 1 0 → in-use-of (choose z (record { words = k; in-use = suc (x .in-use); peak = choose (lib.Dec.ltb (x .in-use) (x .peak)) (x .peak) (suc (x .in-use)) } ∷ xs) (x ∷ count-in xs k)) j ≡ choose (eqb (x .words) j) (x .in-use) (in-use-of xs j) + choose (eqb k j) 1 0
+    go : (z : Bool) → (lib.Dec.T z → x .words ≡ k) → (x .words ≡ k → lib.Dec.T z)
+        → in-use-of (count-in xs k) j ≡ in-use-of xs j + choose (eqb k j) 1 0
+        → in-use-of (choose z (record {
+          words = k;
+          in-use = suc (x .in-use);
+          peak = choose (lib.Dec.ltb (x .in-use) (x .peak)) (x .peak)
+              (suc (x .in-use));
+        } ∷ xs) (x ∷ count-in xs k)) j ≡ choose (eqb (x .words) j) (x .in-use) (in-use-of xs j) + choose (eqb k j) 1 0
     go true a d ih = here1 (eqb k j) ∙ ap (λ z. choose (eqb z j) (x .in-use) (in-use-of xs j) + choose (eqb k j) 1 0) (sym (a tt))
     go false a d ih = off (eqb (x .words) j) (eqb k j) (λ t. eqb→eq (x .words) j t) (λ t. eqb→eq k j t) (λ e. d e) ih
 
@@ -144,19 +164,37 @@ boxes-in : (cs : List Class) (k : ℕ) → boxes (count-in cs k) ≡ suc (boxes 
 boxes-in [] k = refl
 boxes-in (x ∷ xs) k = go (eqb (x .words) k) (boxes-in xs k)
   where
-    go : (z : Bool) → boxes (count-in xs k) ≡ suc (boxes xs) → boxes (choose z (record { words = k; in-use = suc (x .in-use); peak = choose (lib.Dec.ltb (x .in-use) (x .peak)) (x .peak) (suc (x .in-use)) } ∷ xs) (x ∷ count-in xs k)) ≡ suc (x .in-use + boxes xs)
+    go : (z : Bool) → boxes (count-in xs k) ≡ suc (boxes xs)
+        → boxes (choose z (record {
+          words = k;
+          in-use = suc (x .in-use);
+          peak = choose (lib.Dec.ltb (x .in-use) (x .peak)) (x .peak)
+              (suc (x .in-use));
+        } ∷ xs) (x ∷ count-in xs k)) ≡ suc (x .in-use + boxes xs)
     go true ih = omega arith
     go false ih = omega arith
 
 -- what's in flight gets into a new box
-pub make-box : (ds : List Data) (e : Entry) (N : List Entry) (x : Tree) (T : List Tree) (s : State) (v : Value) (t : Ty) (k : ℕ) → e .at ≡ in-flight v → k ≡ words-in ds t → Stored (s .roots) x → Typed ds x t → Invariant ds (e ∷ N) (x ∷ T) s → Invariant ds (owned-entry (box-t (length (s .roots)) k x) (box t) ∷ N) (box-t (length (s .roots)) k x ∷ T) (with-classes (adds-root s (flat x) k) (count-in (s .classes) k))
+pub make-box : (ds : List Data) (e : Entry) (N : List Entry) (x : Tree) (T : List Tree) (s : State) (v : Value) (t : Ty) (k : ℕ) → e .at ≡ in-flight v
+    → k ≡ words-in ds t → Stored (s .roots) x → Typed ds x t → Invariant ds (e ∷ N) (x ∷ T) s
+    → Invariant ds (owned-entry (box-t (length (s .roots)) k x) (box t) ∷ N) (box-t (length (s .roots)) k x ∷ T)
+    (with-classes (adds-root s (flat x) k) (count-in (s .classes) k))
 make-box ds e N x T s v t k e-at k-is st ty w = record {
   borrows = push-own (kinds N) (pop-borrows (e .kind) (kinds N) (w .borrows)) (box t);
-  fine = ((refl, (at-last (s .roots) nu, stored-else (s .roots) rs2 r x el (omega (arith, fresh)) st), typed-owned ds x t ty, inl (k-is, ty)), entries-ok-else ds (s .roots) rs2 r N T el (omega (arith, fresh)) (w .fine .1));
-  sums = λ f. (let a = w .sums f in let a2 : place-sum f (e .at) ≡ 0 = ap (place-sum f) e-at in let k1 = sum-push f 0 (s .roots) (flat x) k in let k2 : f (r + 0) k ≡ f r k = ap (λ z. f z k) (omega arith) in omega arith);
+  fine = (
+    (refl, (at-last (s .roots) nu, stored-else (s .roots) rs2 r x el (omega (arith, fresh)) st), typed-owned ds x t ty, inl (k-is, ty)),
+    entries-ok-else ds (s .roots) rs2 r N T el (omega (arith, fresh)) (w .fine .1),
+  );
+  sums =
+      λ f. (let a = w .sums f in let a2 : place-sum f (e .at) ≡ 0 = ap (place-sum f) e-at in let k1 = sum-push f 0 (s .roots) (flat x) k in let k2 : f
+      (r + 0) k ≡ f r k = ap (λ z. f z k) (omega arith) in omega arith);
   counted = record {
-    by-size = λ j. (let a = w .counted .by-size j in let b1 = sum-push (of-size (suc j)) 0 (s .roots) (flat x) k in let b2 = in-use-in (s .classes) k (suc j) in omega arith);
-    in-all = (let a = w .counted .in-all in let b1 = sum-push is-box 0 (s .roots) (flat x) k in let b2 = boxes-in (s .classes) k in let b3 = one k pos in omega arith);
+    by-size =
+        λ j. (let a = w .counted .by-size j in let b1 = sum-push (of-size (suc j)) 0 (s .roots) (flat x) k in let b2 = in-use-in (s .classes) k
+        (suc j) in omega arith);
+    in-all =
+        (let a = w .counted .in-all in let b1 = sum-push is-box 0 (s .roots) (flat x) k in let b2 = boxes-in (s .classes) k in
+        let b3 = one k pos in omega arith);
   };
 }
   where

@@ -52,18 +52,39 @@ weak-content : (ds : List Data) (g g2 : Bool) (t : Ty) (x : Tree) → (g ≡ tru
 weak-content ds g g2 t x h (inl k) = inl k
 weak-content ds g g2 t x h (inr k) = inr (h (k .0), k .1)
 
-weak-entry : (ds : List Data) (rs : List Root) (at : Place) (g g2 : Bool) (sh : Kind) (x : Tree) (N N2 : List Entry) (T : List Tree) → (g ≡ true → g2 ≡ true) → places N2 ≡ places N → Entry-ok ds rs at g sh x N T → Entry-ok ds rs at g2 sh x N2 T
+weak-entry : (ds : List Data) (rs : List Root) (at : Place) (g g2 : Bool) (sh : Kind) (x : Tree) (N N2 : List Entry) (T : List Tree)
+    → (g ≡ true → g2 ≡ true) → places N2 ≡ places N → Entry-ok ds rs at g sh x N T → Entry-ok ds rs at g2 sh x N2 T
 weak-entry ds rs at g g2 (own t) x N N2 T h pl f = (f .0, f .1, f .2, weak-content ds g g2 t x h (f .3))
-weak-entry ds rs at g g2 (borrow al t a ls) x N N2 T h pl f = let pt = f .1 .2 in (f .0, (f .1 .0, f .1 .1, record { root = pt .root; whole = pt .whole; part = pt .part; standing = ap (λ z. at-level z (a .owner)) pl ∙ pt .standing; holding = pt .holding; leading = pt .leading; typed = pt .typed; value = pt .value }))
+weak-entry ds rs at g g2 (borrow al t a ls) x N N2 T h pl f =
+    let pt = f .1 .2 in (
+      f .0,
+      (
+        f .1 .0,
+        f .1 .1,
+        record {
+          root = pt .root;
+          whole = pt .whole;
+          part = pt .part;
+          standing = ap (λ z. at-level z (a .owner)) pl
+              ∙ pt .standing;
+          holding = pt .holding;
+          leading = pt .leading;
+          typed = pt .typed;
+          value = pt .value;
+        },
+      ),
+    )
 weak-entry ds rs at g g2 inert x N N2 T h pl f = f
 
-pub weak-entries : (ds : List Data) (rs : List Root) (N N2 : List Entry) (T : List Tree) → More-gone N N2 → Entries-ok ds rs N T → Entries-ok ds rs N2 T
+pub weak-entries : (ds : List Data) (rs : List Root) (N N2 : List Entry) (T : List Tree) → More-gone N N2 → Entries-ok ds rs N T
+    → Entries-ok ds rs N2 T
 weak-entries ds rs [] [] T h f = f
 weak-entries ds rs [] (e2 ∷ N2) T h f = absurd h
 weak-entries ds rs (e ∷ N) [] T h f = absurd h
 weak-entries ds rs (e ∷ N) (e2 ∷ N2) [] h f = absurd f
 weak-entries ds rs (e ∷ N) (e2 ∷ N2) (x ∷ T) h f =
-    let k : Entry-ok ds rs (e2 .at) (e .gone) (e2 .kind) x N T = subst (λ z. Entry-ok ds rs z (e .gone) (e2 .kind) x N T) (sym (h .0)) (subst (λ z. Entry-ok ds rs (e .at) (e .gone) z x N T) (sym (h .1)) (f .0)) in
+    let k : Entry-ok ds rs (e2 .at) (e .gone) (e2 .kind) x N T = subst (λ z. Entry-ok ds rs z (e .gone) (e2 .kind) x N T) (sym (h .0))
+    (subst (λ z. Entry-ok ds rs (e .at) (e .gone) z x N T) (sym (h .1)) (f .0)) in
     (weak-entry ds rs (e2 .at) (e .gone) (e2 .gone) (e2 .kind) x N N2 T (h .2) (more-places N N2 (h .3)) k, weak-entries ds rs N N2 T (h .3) (f .1))
 
 weak-sum : (f : ℕ → ℕ → ℕ) (N N2 : List Entry) (T : List Tree) → More-gone N N2 → stack-sum f N2 T ≡ stack-sum f N T
@@ -71,7 +92,8 @@ weak-sum f [] [] T h = refl
 weak-sum f [] (e2 ∷ N2) T h = absurd h
 weak-sum f (e ∷ N) [] T h = absurd h
 weak-sum f (e ∷ N) (e2 ∷ N2) [] h = refl
-weak-sum f (e ∷ N) (e2 ∷ N2) (x ∷ T) h = ap (λ z. place-sum f z + (tree-sum f x + stack-sum f N2 T)) (h .0) ∙ ap (λ z. place-sum f (e .at) + (tree-sum f x + z)) (weak-sum f N N2 T (h .3))
+weak-sum f (e ∷ N) (e2 ∷ N2) (x ∷ T) h =
+    ap (λ z. place-sum f z + (tree-sum f x + stack-sum f N2 T)) (h .0) ∙ ap (λ z. place-sum f (e .at) + (tree-sum f x + z)) (weak-sum f N N2 T (h .3))
 
 pub weak-invariant : (ds : List Data) (N N2 : List Entry) (T : List Tree) (s : State) → More-gone N N2 → Invariant ds N T s → Invariant ds N2 T s
 weak-invariant ds N N2 T s h w = record {
@@ -98,9 +120,13 @@ pub weak-level : (base : ℕ) (g h : ch.Env) (x : Lexeme) → Weaker g h → nam
 weak-level base [] [] x k = refl
 weak-level base [] (w ∷ h) x k = absurd k
 weak-level base (v ∷ g) [] x k = absurd k
-weak-level base (v ∷ g) (w ∷ h) x k = ap (λ z. choose (same z x) (some (length g + base)) (name-level base g x)) (k .0) ∙ ap (λ z. choose (same (w .name) x) (some (z + base)) (name-level base g x)) (weak-length g h (k .4)) ∙ ap (λ z. choose (same (w .name) x) (some (length h + base)) z) (weak-level base g h x (k .4))
+weak-level base (v ∷ g) (w ∷ h) x k =
+    ap (λ z. choose (same z x) (some (length g + base)) (name-level base g x)) (k .0) ∙ ap
+    (λ z. choose (same (w .name) x) (some (z + base)) (name-level base g x)) (weak-length g h (k .4)) ∙ ap
+    (λ z. choose (same (w .name) x) (some (length h + base)) z) (weak-level base g h x (k .4))
 
-pub weak-covers : (base : ℕ) (ln : List Level-loan) (g h : ch.Env) (ls : List Loan) (L : List Level-loan) → Weaker g h → Loans-cover base ln g ls L → Loans-cover base ln h ls L
+pub weak-covers : (base : ℕ) (ln : List Level-loan) (g h : ch.Env) (ls : List Loan) (L : List Level-loan) → Weaker g h → Loans-cover base ln g ls L
+    → Loans-cover base ln h ls L
 weak-covers base ln g h ls L k cov l i = elim (cov l i) [ inl y ↦ inl y | inr y ↦ inr (y .0, sym (weak-level base g h (y .0) k) ∙ y .1, y .2) ]
 
 weak-none : (g h : ch.Env) (x : Lexeme) → Weaker g h → look g x ≡ none → look h x ≡ none
@@ -120,7 +146,8 @@ with-flags [] F = F
 with-flags (w ∷ h) [] = []
 with-flags (w ∷ h) (e ∷ F) = with-gone e (w .gone) ∷ with-flags h F
 
-pub weak-scope : (base : ℕ) (ln : List Level-loan) (g h : ch.Env) (d : me.Env) (F : List Entry) → Weaker g h → Scope base ln g d F → Scope base ln h d (with-flags h F) × More-gone F (with-flags h F)
+pub weak-scope : (base : ℕ) (ln : List Level-loan) (g h : ch.Env) (d : me.Env) (F : List Entry) → Weaker g h → Scope base ln g d F
+    → Scope base ln h d (with-flags h F) × More-gone F (with-flags h F)
 weak-scope base ln [] [] [] [] k m = (tt, tt)
 weak-scope base ln [] [] [] (e ∷ F) k m = absurd m
 weak-scope base ln [] [] (i ∷ d) F k m = absurd m
@@ -136,7 +163,9 @@ weak-scope base ln (v ∷ g) (w ∷ h) (i ∷ d) (e ∷ F) k m =
           place = m .0 .place;
           flag = refl;
           type = subst (λ z. Kind-fits z (e .kind)) (k .1) (m .0 .type);
-          loans = weak-covers base ln g h (w .loans) (loans-of (e .kind)) (k .4) (subst (λ z. Loans-cover base ln g z (loans-of (e .kind))) (k .2) (m .0 .loans));
+          loans =
+              weak-covers base ln g h (w .loans) (loans-of (e .kind)) (k .4)
+              (subst (λ z. Loans-cover base ln g z (loans-of (e .kind))) (k .2) (m .0 .loans));
           fresh = subst (λ z. look h z ≡ none) (k .0) (weak-none g h (v .name) (k .4) (m .0 .fresh));
         },
         r .0,
@@ -145,7 +174,12 @@ weak-scope base ln (v ∷ g) (w ∷ h) (i ∷ d) (e ∷ F) k m =
     )
 
 -- a frame with more flags, and the world with it; H is what's above the frame
-pub weak-frame : (ds : List Data) (base : ℕ) (ln : List Level-loan) (g h : ch.Env) (d : me.Env) (H F C : List Entry) (T : List Tree) (s : State) → Weaker g h → Scope base ln g d F → Invariant ds (H ++ (F ++ C)) T s → Scope base ln h d (with-flags h F) × Invariant ds (H ++ (with-flags h F ++ C)) T s
+pub weak-frame : (ds : List Data) (base : ℕ) (ln : List Level-loan) (g h : ch.Env) (d : me.Env) (H F C : List Entry) (T : List Tree) (s : State)
+    → Weaker g h → Scope base ln g d F → Invariant ds (H ++ (F ++ C)) T s
+    → Scope base ln h d (with-flags h F) × Invariant ds (H ++ (with-flags h F ++ C)) T s
 weak-frame ds base ln g h d H F C T s k m w =
-    let r = weak-scope base ln g h d F k m in
-    (r .0, weak-invariant ds (H ++ (F ++ C)) (H ++ (with-flags h F ++ C)) T s (more-gone-two H H (F ++ C) (with-flags h F ++ C) (more-gone-self H) (more-gone-two F (with-flags h F) C C (r .1) (more-gone-self C))) w)
+    let r = weak-scope base ln g h d F k m in (
+      r .0,
+      weak-invariant ds (H ++ (F ++ C)) (H ++ (with-flags h F ++ C)) T s
+          (more-gone-two H H (F ++ C) (with-flags h F ++ C) (more-gone-self H) (more-gone-two F (with-flags h F) C C (r .1) (more-gone-self C))) w,
+    )

@@ -31,7 +31,9 @@ pub entry-back : (N : List Entry) (i : ℕ) (sh : Kind) → at-level (kinds N) i
 entry-back [] i sh h = absurd (no-some h)
 entry-back (d ∷ N) i sh h = go (level-case (d .kind) (kinds N) i sh h) (entry-back N i sh)
   where
-    go : ((i ≡ length (kinds N)) × (d .kind ≡ sh)) ⊎ (at-level (kinds N) i ≡ some sh) → (at-level (kinds N) i ≡ some sh → (e : Entry) × (at-level N i ≡ some e) × (e .kind ≡ sh)) → (e : Entry) × (at-level (d ∷ N) i ≡ some e) × (e .kind ≡ sh)
+    go : ((i ≡ length (kinds N)) × (d .kind ≡ sh)) ⊎ (at-level (kinds N) i ≡ some sh)
+        → (at-level (kinds N) i ≡ some sh → (e : Entry) × (at-level N i ≡ some e) × (e .kind ≡ sh))
+        → (e : Entry) × (at-level (d ∷ N) i ≡ some e) × (e .kind ≡ sh)
     go (inl k) r = (d, level-at d N i (sym (kinds-length N) ∙ sym (k .0)), k .1)
     go (inr k) r = let y = r k in (y .0, level-push d N i (level-below N i (y .0) (y .1)) ∙ y .1, y .2)
 
@@ -39,12 +41,16 @@ pub level-kinds : (N : List Entry) (i : ℕ) (e : Entry) → at-level N i ≡ so
 level-kinds [] i e h = absurd (no-some h)
 level-kinds (y ∷ N) i e h = go (level-case y N i e h) (level-kinds N i e)
   where
-    go : ((i ≡ length N) × (y ≡ e)) ⊎ (at-level N i ≡ some e) → (at-level N i ≡ some e → at-level (kinds N) i ≡ some (e .kind)) → at-level (kinds (y ∷ N)) i ≡ some (e .kind)
-    go (inl k) f = subst (λ z. at-level (y .kind ∷ kinds N) z ≡ some (e .kind)) (kinds-length N ∙ sym (k .0)) (level-top (y .kind) (kinds N) ∙ ap {B = Option Kind} (λ z. some (z .kind)) (k .1))
+    go : ((i ≡ length N) × (y ≡ e)) ⊎ (at-level N i ≡ some e) → (at-level N i ≡ some e → at-level (kinds N) i ≡ some (e .kind))
+        → at-level (kinds (y ∷ N)) i ≡ some (e .kind)
+    go (inl k) f =
+        subst (λ z. at-level (y .kind ∷ kinds N) z ≡ some (e .kind)) (kinds-length N ∙ sym (k .0))
+        (level-top (y .kind) (kinds N) ∙ ap {B = Option Kind} (λ z. some (z .kind)) (k .1))
     go (inr k) f = let r = f k in level-push (y .kind) (kinds N) i (level-below (kinds N) i (e .kind) r) ∙ r
 
 -- what's fine in the middle
-pub entry-ok-mid : (ds : List Data) (rs : List Root) (N1 : List Entry) (T1 : List Tree) (e : Entry) (N2 : List Entry) (x : Tree) (T2 : List Tree) → length N1 ≡ length T1 → Entries-ok ds rs (N1 ++ (e ∷ N2)) (T1 ++ (x ∷ T2)) → Entry-ok ds rs (e .at) (e .gone) (e .kind) x N2 T2
+pub entry-ok-mid : (ds : List Data) (rs : List Root) (N1 : List Entry) (T1 : List Tree) (e : Entry) (N2 : List Entry) (x : Tree) (T2 : List Tree)
+    → length N1 ≡ length T1 → Entries-ok ds rs (N1 ++ (e ∷ N2)) (T1 ++ (x ∷ T2)) → Entry-ok ds rs (e .at) (e .gone) (e .kind) x N2 T2
 entry-ok-mid ds rs [] [] e N2 x T2 h f = f .0
 entry-ok-mid ds rs [] (y ∷ T1) e N2 x T2 h f = absurd (omega arith)
 entry-ok-mid ds rs (d ∷ N1) [] e N2 x T2 h f = absurd (omega arith)
@@ -65,7 +71,8 @@ entries-length ds rs (e ∷ N) [] f = absurd f
 entries-length ds rs (e ∷ N) (x ∷ T) f = ap suc (entries-length ds rs N T (f .1))
 
 -- what stands at a level, seen from the whole stack
-pub valid-ref-push : (ds : List Data) (e : Entry) (N : List Entry) (x : Tree) (T : List Tree) (t : Ty) (a : Addr) (v : Value) → Valid-ref ds N T t a v → Valid-ref ds (e ∷ N) (x ∷ T) t a v
+pub valid-ref-push : (ds : List Data) (e : Entry) (N : List Entry) (x : Tree) (T : List Tree) (t : Ty) (a : Addr) (v : Value) → Valid-ref ds N T t a v
+    → Valid-ref ds (e ∷ N) (x ∷ T) t a v
 valid-ref-push ds e N x T t a v h = record {
   root = h .root;
   whole = h .whole;
@@ -77,7 +84,8 @@ valid-ref-push ds e N x T t a v h = record {
   value = h .value;
 }
 
-entry-ok-push : (ds : List Data) (rs : List Root) (at : Place) (gone : Bool) (sh : Kind) (y : Tree) (e : Entry) (N : List Entry) (x : Tree) (T : List Tree) → Entry-ok ds rs at gone sh y N T → Entry-ok ds rs at gone sh y (e ∷ N) (x ∷ T)
+entry-ok-push : (ds : List Data) (rs : List Root) (at : Place) (gone : Bool) (sh : Kind) (y : Tree) (e : Entry) (N : List Entry) (x : Tree)
+    (T : List Tree) → Entry-ok ds rs at gone sh y N T → Entry-ok ds rs at gone sh y (e ∷ N) (x ∷ T)
 entry-ok-push ds rs at gone (own t) y e N x T f = f
 entry-ok-push ds rs at gone (borrow al t a ls) y e N x T f = (f .0, (f .1 .0, f .1 .1, valid-ref-push ds e N x T t a (f .1 .0) (f .1 .2)))
 entry-ok-push ds rs at gone inert y e N x T f = f
@@ -88,7 +96,8 @@ pub record Entry-at (ds : List Data) (rs : List Root) (N : List Entry) (T : List
   pub place : at-level (places N) i ≡ some (e .at)
   pub fine1 : Entry-ok ds rs (e .at) (e .gone) (e .kind) tree N T
 
-pub entry-at : (ds : List Data) (rs : List Root) (N : List Entry) (T : List Tree) (i : ℕ) (e : Entry) → Entries-ok ds rs N T → at-level N i ≡ some e → Entry-at ds rs N T i e
+pub entry-at : (ds : List Data) (rs : List Root) (N : List Entry) (T : List Tree) (i : ℕ) (e : Entry) → Entries-ok ds rs N T → at-level N i ≡ some e
+    → Entry-at ds rs N T i e
 entry-at ds rs [] T i e f h = absurd (no-some h)
 entry-at ds rs (d ∷ N) [] i e f h = absurd f
 entry-at ds rs (d ∷ N) (x ∷ T) i e f h = go (level-case d N i e h) (entry-at ds rs N T i e (f .1))
@@ -97,8 +106,25 @@ entry-at ds rs (d ∷ N) (x ∷ T) i e f h = go (level-case d N i e h) (entry-at
     lt = entries-length ds rs N T (f .1)
 
     go : ((i ≡ length N) × (d ≡ e)) ⊎ (at-level N i ≡ some e) → (at-level N i ≡ some e → Entry-at ds rs N T i e) → Entry-at ds rs (d ∷ N) (x ∷ T) i e
-    go (inl k) r = record { tree = x; holds = level-at x T i (lt ∙ sym (k .0)); place = level-at (d .at) (places N) i (places-length N ∙ sym (k .0)) ∙ ap {B = Option Place} (λ z. some (z .at)) (k .1); fine1 = subst (λ z. Entry-ok ds rs (z .at) (z .gone) (z .kind) x (d ∷ N) (x ∷ T)) (k .1) (entry-ok-push ds rs (d .at) (d .gone) (d .kind) x d N x T (f .0)) }
-    go (inr k) r = let y = r k in record { tree = y .tree; holds = level-push x T i (level-below T i (y .tree) (y .holds)) ∙ y .holds; place = level-push (d .at) (places N) i (level-below (places N) i (e .at) (y .place)) ∙ y .place; fine1 = entry-ok-push ds rs (e .at) (e .gone) (e .kind) (y .tree) d N x T (y .fine1) }
+    go (inl k) r =
+        record {
+          tree = x;
+          holds = level-at x T i (lt ∙ sym (k .0));
+          place = level-at (d .at) (places N) i (places-length N ∙ sym (k .0))
+              ∙ ap {B = Option Place} (λ z. some (z .at)) (k .1);
+          fine1 = subst (λ z. Entry-ok ds rs (z .at) (z .gone) (z .kind) x (d ∷ N) (x ∷ T)) (k .1)
+              (entry-ok-push ds rs (d .at) (d .gone) (d .kind) x d N x T (f .0));
+        }
+    go (inr k) r =
+        let y = r k in
+        record {
+          tree = y .tree;
+          holds = level-push x T i (level-below T i (y .tree) (y .holds)) ∙ y .holds;
+          place = level-push (d .at) (places N) i
+              (level-below (places N) i (e .at) (y .place)) ∙ y .place;
+          fine1 = entry-ok-push ds rs (e .at) (e .gone) (e .kind)
+              (y .tree) d N x T (y .fine1);
+        }
 
 pub level-under : {A : Type 0} (H X : List A) (i : ℕ) (e : A) → at-level X i ≡ some e → at-level (H ++ X) i ≡ some e
 level-under [] X i e h = h

@@ -17,7 +17,8 @@ use Rattle.soundness.proofs.Basics.{true-false}
 use Rattle.soundness.proofs.loans.Stack.{push-own}
 
 -- what's in flight, of an owned type
-pub owned-value : (ds : List Data) (rs : List Root) (e : Entry) (x : Tree) (N : List Entry) (T : List Tree) (v : Value) (t : Ty) → owned t ≡ true → Value-entry v t e → Entry-ok ds rs (e .at) (e .gone) (e .kind) x N T → (v ≡ flat x) × Stored rs x × Typed ds x t
+pub owned-value : (ds : List Data) (rs : List Root) (e : Entry) (x : Tree) (N : List Entry) (T : List Tree) (v : Value) (t : Ty) → owned t ≡ true
+    → Value-entry v t e → Entry-ok ds rs (e .at) (e .gone) (e .kind) x N T → (v ≡ flat x) × Stored rs x × Typed ds x t
 owned-value ds rs e x N T v t ow fl f0 = go (e .kind) (fl .type) (subst (λ z. Entry-ok ds rs z (e .gone) (e .kind) x N T) (fl .place) f0)
   where
     whole : (u : Ty) → t ≡ u → Content ds (e .gone) u x → Typed ds x t
@@ -45,7 +46,8 @@ pub record Owned-top (ds : List Data) (T : List Tree) (s : State) (v : Value) (t
   pub typed : Typed ds tree t
   pub shape : e .kind ≡ own t
 
-pub owned-top : (ds : List Data) (e : Entry) (N : List Entry) (T : List Tree) (s : State) (v : Value) (t : Ty) → owned t ≡ true → Value-entry v t e → Invariant ds (e ∷ N) T s → Owned-top ds T s v t e
+pub owned-top : (ds : List Data) (e : Entry) (N : List Entry) (T : List Tree) (s : State) (v : Value) (t : Ty) → owned t ≡ true → Value-entry v t e
+    → Invariant ds (e ∷ N) T s → Owned-top ds T s v t e
 owned-top ds e N [] s v t ow fl w = absurd (w .fine)
 owned-top ds e N (x ∷ T) s v t ow fl w =
     let k = owned-value ds (s .roots) e x N T v t ow fl (w .fine .0) in
@@ -58,8 +60,18 @@ typed-int ds (con-t k ts) ty = absurd ty
 typed-int ds (box-t r k y) ty = absurd ty
 typed-int ds hole-t ty = absurd ty
 
-pub top-int : (ds : List Data) (e : Entry) (N : List Entry) (T : List Tree) (s : State) (v : Value) → Value-entry v int e → Invariant ds (e ∷ N) T s → (k : ℕ) × (v ≡ int-v k) × (num-of v ≡ some k)
-top-int ds e N T s v fl w = let o = owned-top ds e N T s v int refl fl w in let k = typed-int ds (o .tree) (o .typed) in (k .0, o .value ∙ k .1, ap num-of (o .value ∙ k .1))
+pub top-int : (ds : List Data) (e : Entry) (N : List Entry) (T : List Tree) (s : State) (v : Value) → Value-entry v int e → Invariant ds (e ∷ N) T s
+    → (k : ℕ) × (v ≡ int-v k) × (num-of v ≡ some k)
+top-int ds e N T s v fl w =
+    let o = owned-top ds e N T s v int refl fl w in let k = typed-int ds (o .tree) (o .typed) in (k .0, o .value ∙ k .1, ap num-of (o .value ∙ k .1))
 
-pub push-int : (ds : List Data) (N : List Entry) (T : List Tree) (s : State) (k : ℕ) → Invariant ds N T s → Invariant ds (owned-entry (int-t k) int ∷ N) (int-t k ∷ T) s
-push-int ds N T s k w = record { borrows = push-own (kinds N) (w .borrows) int; fine = ((refl, tt, refl, inl tt), w .fine); sums = λ f. (let a = w .sums f in omega arith); counted = w .counted }
+pub push-int : (ds : List Data) (N : List Entry) (T : List Tree) (s : State) (k : ℕ) → Invariant ds N T s
+    → Invariant ds (owned-entry (int-t k) int ∷ N) (int-t k ∷ T) s
+push-int ds N T s k w =
+    record {
+      borrows = push-own (kinds N) (w .borrows) int;
+      fine = ((refl, tt, refl, inl tt), w .fine);
+      sums = λ f.
+          (let a = w .sums f in omega arith);
+      counted = w .counted;
+    }

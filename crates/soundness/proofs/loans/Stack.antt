@@ -23,7 +23,8 @@ level-top x xs = go (eqb (length xs) (length xs)) (eqb-refl (length xs))
     go false t = absurd t
 
 -- what stands at a level in x ∷ xs: the top, or further down
-pub level-case : {A : Type 0} (x : A) (xs : List A) (i : ℕ) (y : A) → at-level (x ∷ xs) i ≡ some y → ((i ≡ length xs) × (x ≡ y)) ⊎ (at-level xs i ≡ some y)
+pub level-case : {A : Type 0} (x : A) (xs : List A) (i : ℕ) (y : A) → at-level (x ∷ xs) i ≡ some y
+    → ((i ≡ length xs) × (x ≡ y)) ⊎ (at-level xs i ≡ some y)
 level-case x xs i y e = go (eqb i (length xs)) (λ t. eqb→eq i (length xs) t) e
   where
     go : (o : Bool) → (T o → i ≡ length xs) → choose o (some x) (at-level xs i) ≡ some y → ((i ≡ length xs) × (x ≡ y)) ⊎ (at-level xs i ≡ some y)
@@ -79,7 +80,8 @@ not-both e f = let z : true ≡ false = sym e ∙ f in let k : _≡_ {A = ℕ} 0
 abbrev pub Permitted : List Kind → ℕ → Kind → Addr → Kind → Addr → Type 0
 Permitted N i x a y d = ((exclusive x ≡ false) × (exclusive y ≡ false)) ⊎ ((exclusive x ≡ true) × Prefix a d × Lent N i (exclusive y))
 
-pub permitted-at : (N : List Kind) → Exclusivity N → (i j : ℕ) (x y : Kind) (a d : Addr) → i < j → at-level N i ≡ some x → at-level N j ≡ some y → addr-of i x ≡ some a → addr-of j y ≡ some d → Comparable a d → Permitted N i x a y d
+pub permitted-at : (N : List Kind) → Exclusivity N → (i j : ℕ) (x y : Kind) (a d : Addr) → i < j → at-level N i ≡ some x → at-level N j ≡ some y
+    → addr-of i x ≡ some a → addr-of j y ≡ some d → Comparable a d → Permitted N i x a y d
 permitted-at [] h i j x y a d lt ex ey ax ay co = absurd (no-some ex)
 permitted-at (t ∷ N) h i j x y a d lt ex ey ax ay co = go (level-case t N j y ey) (λ e. permitted-at N (h .1) i j x y a d lt (down e) e ax ay co)
   where
@@ -94,21 +96,35 @@ permitted-at (t ∷ N) h i j x y a d lt ex ey ax ay co = go (level-case t N j y 
     more (inr b) = inr (b .0, b .1, inr (b .2))
 
     go : ((j ≡ length N) × (t ≡ y)) ⊎ (at-level N j ≡ some y) → (at-level N j ≡ some y → Permitted N i x a y d) → Permitted (t ∷ N) i x a y d
-    go (inl b) f = subst (λ z. Permitted (t ∷ N) i x a z d) (b .1) (h .0 d (ap (addr-of (length N)) (b .1) ∙ subst (λ z. addr-of z y ≡ some d) (b .0) ay) i x a (under (b .0)) ax co)
+    go (inl b) f =
+        subst (λ z. Permitted (t ∷ N) i x a z d) (b .1)
+        (h .0 d (ap (addr-of (length N)) (b .1) ∙ subst (λ z. addr-of z y ≡ some d) (b .0) ay) i x a (under (b .0)) ax co)
     go (inr b) f = more (f b)
 
 -- NEW ENTRIES: w, at or below z, exclusive only if z is. Either z is shared, or w has a loan of it, and no newer one that's comparable with w stands in the way
 abbrev pub Unobstructed : List Kind → ℕ → Bool → Addr → Type 0
-Unobstructed N lz wx aw = (j : ℕ) (v : Kind) (d : Addr) → lz < j → at-level N j ≡ some v → addr-of j v ≡ some d → Comparable d aw → (exclusive v ≡ true) ⊎ (wx ≡ true) → ⊥
+Unobstructed N lz wx aw =
+    (j : ℕ) (v : Kind) (d : Addr) → lz < j → at-level N j ≡ some v → addr-of j v ≡ some d → Comparable d aw → (exclusive v ≡ true) ⊎ (wx ≡ true) → ⊥
 
-pub reborrow : (N : List Kind) → Exclusivity N → (lz : ℕ) (z : Kind) (az : Addr) → at-level N lz ≡ some z → addr-of lz z ≡ some az → (w : Kind) (aw : Addr) → addr-of (length N) w ≡ some aw → Prefix az aw → (exclusive w ≡ true → exclusive z ≡ true) → (exclusive z ≡ false) ⊎ (Has-loan (loans-of w) lz (exclusive w) × Unobstructed N lz (exclusive w) aw) → Exclusivity (w ∷ N)
-reborrow N h lz z az ez az-is w aw aw-is pre ex src = (λ d d-is i x a x-at a-is co. (let same-d : aw ≡ d = some-is (sym aw-is ∙ d-is) in subst (λ y. Permitted (w ∷ N) i x a w y) same-d (one i x a x-at a-is (subst (λ y. Comparable a y) (sym same-d) co))), h)
+pub reborrow : (N : List Kind) → Exclusivity N → (lz : ℕ) (z : Kind) (az : Addr) → at-level N lz ≡ some z → addr-of lz z ≡ some az
+    → (w : Kind) (aw : Addr) → addr-of (length N) w ≡ some aw → Prefix az aw → (exclusive w ≡ true → exclusive z ≡ true)
+    → (exclusive z ≡ false) ⊎ (Has-loan (loans-of w) lz (exclusive w) × Unobstructed N lz (exclusive w) aw) → Exclusivity (w ∷ N)
+reborrow N h lz z az ez az-is w aw aw-is pre ex src = (
+  λ d d-is i x a x-at a-is co. (let same-d : aw ≡ d = some-is (sym aw-is ∙ d-is) in subst (λ y. Permitted (w ∷ N) i x a w y) same-d
+      (one i x a x-at a-is (subst (λ y. Comparable a y) (sym same-d) co))),
+  h,
+)
   where
     shared-w : exclusive z ≡ false → exclusive w ≡ false
     shared-w f = elim (bool-case (exclusive w)) [ inl t ↦ absurd (not-both (ex t) f) | inr t ↦ t ]
 
     conv : (i : ℕ) → Lent N i (exclusive z) → Lent N i (exclusive w)
-    conv i l = elim (bool-case (exclusive w)) [ inl t ↦ subst (λ y. Lent N i y) (ex t ∙ sym t) l | inr t ↦ subst (λ y. Lent N i y) (sym t) (lent-any N i (exclusive z) l) ]
+    conv i l =
+        elim (bool-case (exclusive w)) [
+          | inl t ↦ subst (λ y. Lent N i y) (ex t ∙ sym t) l
+          | inr t ↦ subst (λ y. Lent N i y) (sym t)
+              (lent-any N i (exclusive z) l)
+        ]
 
     older : (i : ℕ) (x : Kind) (a : Addr) → Permitted N i x a z az → Permitted (w ∷ N) i x a w aw
     older i x a (inl b) = inl (b .0, shared-w (b .1))
@@ -118,10 +134,15 @@ reborrow N h lz z az ez az-is w aw aw-is pre ex src = (λ d d-is i x a x-at a-is
     self (inl f) = inl (f, shared-w f)
     self (inr f) = elim (bool-case (exclusive z)) [ inl t ↦ inr (t, pre, inl (f .0)) | inr t ↦ inl (t, shared-w t) ]
 
-    newer : (i : ℕ) (x : Kind) (a : Addr) → lz < i → at-level N i ≡ some x → addr-of i x ≡ some a → Comparable a aw → Permitted N lz z az x a → (exclusive z ≡ false) ⊎ (Has-loan (loans-of w) lz (exclusive w) × Unobstructed N lz (exclusive w) aw) → Permitted (w ∷ N) i x a w aw
+    newer : (i : ℕ) (x : Kind) (a : Addr) → lz < i → at-level N i ≡ some x → addr-of i x ≡ some a → Comparable a aw → Permitted N lz z az x a
+        → (exclusive z ≡ false) ⊎ (Has-loan (loans-of w) lz (exclusive w) × Unobstructed N lz (exclusive w) aw) → Permitted (w ∷ N) i x a w aw
     newer i x a lt x-at a-is co (inl b) src1 = inl (b .1, shared-w (b .0))
     newer i x a lt x-at a-is co (inr b) (inl f) = absurd (not-both (b .0) f)
-    newer i x a lt x-at a-is co (inr b) (inr f) = elim (bool-case (exclusive x)) [ inl t ↦ absurd (f .1 i x a lt x-at a-is co (inl t)) | inr t ↦ elim (bool-case (exclusive w)) [ inl s ↦ absurd (f .1 i x a lt x-at a-is co (inr s)) | inr s ↦ inl (t, s) ] ]
+    newer i x a lt x-at a-is co (inr b) (inr f) =
+        elim (bool-case (exclusive x)) [
+          | inl t ↦ absurd (f .1 i x a lt x-at a-is co (inl t))
+          | inr t ↦ elim (bool-case (exclusive w)) [ inl s ↦ absurd (f .1 i x a lt x-at a-is co (inr s)) | inr s ↦ inl (t, s) ]
+        ]
 
     flip : (a d : Addr) → Comparable a d → Comparable d a
     flip a d (inl k) = inr k
@@ -131,14 +152,18 @@ reborrow N h lz z az ez az-is w aw aw-is pre ex src = (λ d d-is i x a x-at a-is
     one i x a x-at a-is co = elim (order-case i lz) [
       | inl lt ↦ older i x a (permitted-at N h i lz x z a az lt x-at ez a-is az-is (comparable-up a az aw pre co))
       | inr r ↦ elim r [
-        | inl e ↦ (let x-is : z ≡ x = some-is (sym ez ∙ ap (at-level N) (sym e) ∙ x-at) in let a-eq : az ≡ a = some-is (sym az-is ∙ ap (addr-of lz) x-is ∙ ap (λ y. addr-of y x) (sym e) ∙ a-is) in subst (λ y. Permitted (w ∷ N) y x a w aw) (sym e) (subst (λ y. Permitted (w ∷ N) lz x y w aw) a-eq (subst (λ y. Permitted (w ∷ N) lz y az w aw) x-is (self src))))
+        | inl e ↦ (let x-is : z ≡ x = some-is (sym ez ∙ ap (at-level N) (sym e) ∙ x-at) in let a-eq : az ≡ a = some-is
+            (sym az-is ∙ ap (addr-of lz) x-is ∙ ap (λ y. addr-of y x) (sym e) ∙ a-is) in subst (λ y. Permitted (w ∷ N) y x a w aw) (sym e)
+            (subst (λ y. Permitted (w ∷ N) lz x y w aw) a-eq (subst (λ y. Permitted (w ∷ N) lz y az w aw) x-is (self src))))
         | inr gt ↦ newer i x a gt x-at a-is co (permitted-at N h lz i z x az a gt ez x-at az-is a-is (flip a az (comparable-up a az aw pre co))) src
       ]
     ]
 
 -- who is free has nothing newer in the way; who is readable, nothing newer that's exclusive
-pub unobstructed-free : (N : List Kind) → Exclusivity N → (lz : ℕ) (z : Kind) (az : Addr) → at-level N lz ≡ some z → addr-of lz z ≡ some az → exclusive z ≡ true → (Lent N lz false → ⊥) → (wx : Bool) (aw : Addr) → Prefix az aw → Unobstructed N lz wx aw
-unobstructed-free N h lz z az ez az-is xz free wx aw pre j v d lt v-at d-is co ex = go (permitted-at N h lz j z v az d lt ez v-at az-is d-is (swap d az (comparable-up d az aw pre co)))
+pub unobstructed-free : (N : List Kind) → Exclusivity N → (lz : ℕ) (z : Kind) (az : Addr) → at-level N lz ≡ some z → addr-of lz z ≡ some az
+    → exclusive z ≡ true → (Lent N lz false → ⊥) → (wx : Bool) (aw : Addr) → Prefix az aw → Unobstructed N lz wx aw
+unobstructed-free N h lz z az ez az-is xz free wx aw pre j v d lt v-at d-is co ex =
+    go (permitted-at N h lz j z v az d lt ez v-at az-is d-is (swap d az (comparable-up d az aw pre co)))
   where
     swap : (a f : Addr) → Comparable a f → Comparable f a
     swap a f (inl k) = inr k
@@ -148,8 +173,10 @@ unobstructed-free N h lz z az ez az-is xz free wx aw pre j v d lt v-at d-is co e
     go (inl x) = not-both xz (x .0)
     go (inr x) = free (lent-any N lz (exclusive v) (x .2))
 
-pub unobstructed-readable : (N : List Kind) → Exclusivity N → (lz : ℕ) (z : Kind) (az : Addr) → at-level N lz ≡ some z → addr-of lz z ≡ some az → exclusive z ≡ true → (Lent N lz true → ⊥) → (aw : Addr) → Prefix az aw → Unobstructed N lz false aw
-unobstructed-readable N h lz z az ez az-is xz free aw pre j v d lt v-at d-is co ex = go (permitted-at N h lz j z v az d lt ez v-at az-is d-is (swap d az (comparable-up d az aw pre co))) ex
+pub unobstructed-readable : (N : List Kind) → Exclusivity N → (lz : ℕ) (z : Kind) (az : Addr) → at-level N lz ≡ some z → addr-of lz z ≡ some az
+    → exclusive z ≡ true → (Lent N lz true → ⊥) → (aw : Addr) → Prefix az aw → Unobstructed N lz false aw
+unobstructed-readable N h lz z az ez az-is xz free aw pre j v d lt v-at d-is co ex =
+    go (permitted-at N h lz j z v az d lt ez v-at az-is d-is (swap d az (comparable-up d az aw pre co))) ex
   where
     swap : (a f : Addr) → Comparable a f → Comparable f a
     swap a f (inl k) = inr k
@@ -164,11 +191,15 @@ path-longer : (q r : Path) (i : Step) → q ≡ q ++ (i ∷ r) → ⊥
 path-longer q r i e = let k : length q ≡ length (q ++ (i ∷ r)) = ap length e in let g = length-append q (i ∷ r) in omega arith
 
 -- THE STORE: through what's exclusive and free, nothing strictly below is pointed at
-pub none-below : (N : List Kind) → Exclusivity N → (lz : ℕ) (z : Kind) (az : Addr) → at-level N lz ≡ some z → addr-of lz z ≡ some az → exclusive z ≡ true → (Lent N lz false → ⊥) → (j : ℕ) (y : Kind) (d : Addr) → at-level N j ≡ some y → addr-of j y ≡ some d → az .owner ≡ d .owner → Strictly-below (az .path) (d .path) → ⊥
+pub none-below : (N : List Kind) → Exclusivity N → (lz : ℕ) (z : Kind) (az : Addr) → at-level N lz ≡ some z → addr-of lz z ≡ some az
+    → exclusive z ≡ true → (Lent N lz false → ⊥) → (j : ℕ) (y : Kind) (d : Addr) → at-level N j ≡ some y → addr-of j y ≡ some d → az .owner ≡ d .owner
+    → Strictly-below (az .path) (d .path) → ⊥
 none-below N h lz z az ez az-is xz free j y d y-at d-is same-cell bel = elim (order-case j lz) [
   | inl lt ↦ older (permitted-at N h j lz y z d az lt y-at ez d-is az-is (inr pre))
   | inr r ↦ elim r [
-    | inl e ↦ (let y-is : z ≡ y = some-is (sym ez ∙ ap (at-level N) (sym e) ∙ y-at) in let d-eq : az ≡ d = some-is (sym az-is ∙ ap (addr-of lz) y-is ∙ ap (λ x. addr-of x y) (sym e) ∙ d-is) in path-longer (az .path) (bel .1) (bel .0) (ap (λ x. x .path) d-eq ∙ bel .2))
+    | inl e ↦ (let y-is : z ≡ y = some-is (sym ez ∙ ap (at-level N) (sym e) ∙ y-at) in let d-eq : az ≡ d = some-is
+        (sym az-is ∙ ap (addr-of lz) y-is ∙ ap (λ x. addr-of x y) (sym e) ∙ d-is) in path-longer (az .path) (bel .1) (bel .0)
+        (ap (λ x. x .path) d-eq ∙ bel .2))
     | inr gt ↦ newer (permitted-at N h lz j z y az d gt ez y-at az-is d-is (inl pre))
   ]
 ]
@@ -182,20 +213,29 @@ none-below N h lz z az ez az-is xz free j y d y-at d-is same-cell bel = elim (or
 
     older : Permitted N j y d z az → ⊥
     older (inl x) = not-both xz (x .1)
-    older (inr x) = path-longer (az .path) (bel .1 ++ x .1 .1 .0) (bel .0) (x .1 .1 .1 ∙ ap (λ w. w ++ x .1 .1 .0) (bel .2) ∙ append-assoc (az .path) (bel .0 ∷ bel .1) (x .1 .1 .0))
+    older (inr x) =
+        path-longer (az .path) (bel .1 ++ x .1 .1 .0) (bel .0)
+        (x .1 .1 .1 ∙ ap (λ w. w ++ x .1 .1 .0) (bel .2) ∙ append-assoc (az .path) (bel .0 ∷ bel .1) (x .1 .1 .0))
 
 -- references point to older cells
-pub owner-older : (N : List Kind) → Anchored N → (j : ℕ) (x : Bool) (t : Ty) (a : Addr) (ls : List Level-loan) → at-level N j ≡ some (borrow x t a ls) → a .owner < j
+pub owner-older : (N : List Kind) → Anchored N → (j : ℕ) (x : Bool) (t : Ty) (a : Addr) (ls : List Level-loan)
+    → at-level N j ≡ some (borrow x t a ls) → a .owner < j
 owner-older [] h j x t a ls e = absurd (no-some e)
 owner-older (y ∷ N) h j x t a ls e = go (level-case y N j (borrow x t a ls) e) (owner-older N (h .1) j x t a ls)
   where
-    go : ((j ≡ length N) × (y ≡ borrow x t a ls)) ⊎ (at-level N j ≡ some (borrow x t a ls)) → (at-level N j ≡ some (borrow x t a ls) → a .owner < j) → a .owner < j
-    go (inl k) f = let hm : Anchored1 N (borrow x t a ls) = subst (Anchored1 N) (k .1) (h .0) in let g = level-below N (a .owner) (own (hm .2 .0)) (hm .2 .1) in let g2 = k .0 in omega arith
+    go : ((j ≡ length N) × (y ≡ borrow x t a ls)) ⊎ (at-level N j ≡ some (borrow x t a ls))
+        → (at-level N j ≡ some (borrow x t a ls) → a .owner < j) → a .owner < j
+    go (inl k) f =
+        let hm : Anchored1 N (borrow x t a ls) = subst (Anchored1 N) (k .1) (h .0) in
+        let g = level-below N (a .owner) (own (hm .2 .0)) (hm .2 .1) in let g2 = k .0 in omega arith
     go (inr k) f = f k
 
 -- what's owned and free is pointed into by nobody
-pub none-into : (N : List Kind) → Well-borrowed N → (lz : ℕ) (u : Ty) → at-level N lz ≡ some (own u) → (Lent N lz false → ⊥) → (j : ℕ) (x : Bool) (t : Ty) (a : Addr) (ls : List Level-loan) → at-level N j ≡ some (borrow x t a ls) → a .owner ≡ lz → ⊥
-none-into N sn lz u ez free j x t a ls y-at e = go (permitted-at N (sn .exclusivity) lz j (own u) (borrow x t a ls) (record { owner = lz; path = [] }) a (let g = owner-older N (sn .anchored) j x t a ls y-at in omega arith) ez y-at refl refl (inl (sym e, (a .path, refl))))
+pub none-into : (N : List Kind) → Well-borrowed N → (lz : ℕ) (u : Ty) → at-level N lz ≡ some (own u) → (Lent N lz false → ⊥)
+    → (j : ℕ) (x : Bool) (t : Ty) (a : Addr) (ls : List Level-loan) → at-level N j ≡ some (borrow x t a ls) → a .owner ≡ lz → ⊥
+none-into N sn lz u ez free j x t a ls y-at e =
+    go (permitted-at N (sn .exclusivity) lz j (own u) (borrow x t a ls) (record { owner = lz; path = [] }) a
+    (let g = owner-older N (sn .anchored) j x t a ls y-at in omega arith) ez y-at refl refl (inl (sym e, (a .path, refl))))
   where
     go : Permitted N lz (own u) (record { owner = lz; path = [] }) (borrow x t a ls) a → ⊥
     go (inl k) = not-both refl (k .0)
@@ -203,15 +243,24 @@ none-into N sn lz u ez free j x t a ls y-at e = go (permitted-at N (sn .exclusiv
 
 -- a new owner, or what's inert, is apart from all
 pub push-own : (N : List Kind) → Well-borrowed N → (t : Ty) → Well-borrowed (own t ∷ N)
-push-own N sn t = record { exclusivity = (λ d d-is i x a x-at a-is co. absurd (clash d d-is i x a x-at a-is co), sn .exclusivity); anchored = (tt, sn .anchored) }
+push-own N sn t =
+    record { exclusivity = (λ d d-is i x a x-at a-is co. absurd (clash d d-is i x a x-at a-is co), sn .exclusivity); anchored = (tt, sn .anchored) }
   where
     cell-low : (i : ℕ) (x : Kind) (a : Addr) → at-level N i ≡ some x → addr-of i x ≡ some a → a .owner < length N
-    cell-low i (own u) a x-at e = let g = level-below N i (own u) x-at in let k : i ≡ a .owner = ap (λ o. from-option o 0 (λ z. z .owner)) e in omega arith
-    cell-low i (borrow y u f ls) a x-at e = let g = level-below N i (borrow y u f ls) x-at in let g2 = owner-older N (sn .anchored) i y u f ls x-at in let k : f .owner ≡ a .owner = ap (λ o. from-option o 0 (λ z. z .owner)) e in omega arith
+    cell-low i (own u) a x-at e =
+        let g = level-below N i (own u) x-at in let k : i ≡ a .owner = ap (λ o. from-option o 0 (λ z. z .owner)) e in omega arith
+    cell-low i (borrow y u f ls) a x-at e =
+        let g = level-below N i (borrow y u f ls) x-at in
+        let g2 = owner-older N (sn .anchored) i y u f ls x-at in
+        let k : f .owner ≡ a .owner = ap (λ o. from-option o 0 (λ z. z .owner)) e in omega arith
     cell-low i inert a x-at e = absurd (no-some e)
 
-    clash : (d : Addr) → addr-of (length N) (own t) ≡ some d → (i : ℕ) (x : Kind) (a : Addr) → at-level N i ≡ some x → addr-of i x ≡ some a → Comparable a d → ⊥
-    clash d e i x a x-at a-is co = let g = cell-low i x a x-at a-is in let k : length N ≡ d .owner = ap (λ o. from-option o 0 (λ z. z .owner)) e in elim co [ inl c ↦ (let c0 = c .0 in omega arith) | inr c ↦ (let c0 = c .0 in omega arith) ]
+    clash : (d : Addr) → addr-of (length N) (own t) ≡ some d → (i : ℕ) (x : Kind) (a : Addr) → at-level N i ≡ some x → addr-of i x ≡ some a
+        → Comparable a d → ⊥
+    clash d e i x a x-at a-is co =
+        let g = cell-low i x a x-at a-is in
+        let k : length N ≡ d .owner = ap (λ o. from-option o 0 (λ z. z .owner)) e in
+        elim co [ inl c ↦ (let c0 = c .0 in omega arith) | inr c ↦ (let c0 = c .0 in omega arith) ]
 
 pub push-inert : (N : List Kind) → Well-borrowed N → Well-borrowed (inert ∷ N)
 push-inert N sn = record { exclusivity = (λ d d-is i x a x-at a-is co. absurd (no-some d-is), sn .exclusivity); anchored = (tt, sn .anchored) }
@@ -220,7 +269,8 @@ pub pop-borrows : (y : Kind) (N : List Kind) → Well-borrowed (y ∷ N) → Wel
 pop-borrows y N sn = record { exclusivity = sn .exclusivity .1; anchored = sn .anchored .1 }
 
 -- parts of one name, lent one after the other: a sibling that's not comparable isn't in the way
-pub unobstructed-push : (N : List Kind) (lz : ℕ) (wx : Bool) (aw : Addr) (y : Kind) → Unobstructed N lz wx aw → ((d : Addr) → addr-of (length N) y ≡ some d → Comparable d aw → ⊥) → Unobstructed (y ∷ N) lz wx aw
+pub unobstructed-push : (N : List Kind) (lz : ℕ) (wx : Bool) (aw : Addr) (y : Kind) → Unobstructed N lz wx aw
+    → ((d : Addr) → addr-of (length N) y ≡ some d → Comparable d aw → ⊥) → Unobstructed (y ∷ N) lz wx aw
 unobstructed-push N lz wx aw y q no-way j v d lt v-at d-is co ex = go (level-case y N j v v-at)
   where
     go : ((j ≡ length N) × (y ≡ v)) ⊎ (at-level N j ≡ some v) → ⊥
@@ -228,7 +278,8 @@ unobstructed-push N lz wx aw y q no-way j v d lt v-at d-is co ex = go (level-cas
     go (inr k) = q j v d lt k d-is co ex
 
 -- two different steps below one address
-pub siblings : (cell : ℕ) (q : Path) (i j : Step) → (i ≡ j → ⊥) → Comparable (record { owner = cell; path = q ++ (i ∷ []) }) (record { owner = cell; path = q ++ (j ∷ []) }) → ⊥
+pub siblings : (cell : ℕ) (q : Path) (i j : Step) → (i ≡ j → ⊥)
+    → Comparable (record { owner = cell; path = q ++ (i ∷ []) }) (record { owner = cell; path = q ++ (j ∷ []) }) → ⊥
 siblings cell q i j ne (inl h) = apart q (h .1 .0) (h .1 .1)
   where
     apart : (q r : Path) → q ++ (j ∷ []) ≡ (q ++ (i ∷ [])) ++ r → ⊥
@@ -247,6 +298,7 @@ prefix-self a = (refl, ([], sym (append-nil (a .path))))
 pub owner-push : (y : Kind) (N : List Kind) (i k : ℕ) → owner-at N i ≡ some k → owner-at (y ∷ N) i ≡ some k
 owner-push y N i k e = found (at-level N i) refl e
   where
-    found : (o : Option Kind) → at-level N i ≡ o → if-some o (λ z. if-some (addr-of i z) (λ a. some (a .owner))) ≡ some k → owner-at (y ∷ N) i ≡ some k
+    found : (o : Option Kind) → at-level N i ≡ o → if-some o (λ z. if-some (addr-of i z) (λ a. some (a .owner))) ≡ some k
+        → owner-at (y ∷ N) i ≡ some k
     found none f r = absurd (no-some r)
     found (some z) f r = ap (λ o. if-some o (λ z1. if-some (addr-of i z1) (λ a. some (a .owner)))) (level-push y N i (level-below N i z f) ∙ f) ∙ r

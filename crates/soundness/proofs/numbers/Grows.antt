@@ -105,18 +105,27 @@ starts s = record { stored = every-any (λ (x : Root). Numbers Any (x .val)) (s 
 pub shown-grows : Shown-grows
 shown-grows q m u = record {
   by-eval = λ g e s. shown-of (eval-meets Any (Front (s .outs)) (fronts (s .outs)) m q (prog-any q) u g e s (expr-any e) (starts s));
-  by-evals = λ g es vs s. shown-of (evals-meets Any (Front (s .outs)) (fronts (s .outs)) m q (prog-any q) u g es vs s (exprs-any es) (values-any vs) (starts s));
-  by-calls = λ f vs s. shown-of (calls-meets Any (Front (s .outs)) (fronts (s .outs)) m q (prog-any q) u f vs s (body-any (f .does)) (every-any (Numbers Any) vs value-any) (starts s));
+  by-evals =
+      λ g es vs s. shown-of (evals-meets Any (Front (s .outs)) (fronts (s .outs)) m q (prog-any q) u g es vs s (exprs-any es)
+      (values-any vs) (starts s));
+  by-calls =
+      λ f vs s. shown-of (calls-meets Any (Front (s .outs)) (fronts (s .outs)) m q (prog-any q) u f vs s (body-any (f .does))
+      (every-any (Numbers Any) vs value-any) (starts s));
   by-bodies = λ g h d s. shown-of (bodies-meets Any (Front (s .outs)) (fronts (s .outs)) m q (prog-any q) u g h d s (body-any d) (starts s));
   by-tails = λ g t s. shown-of (tails-meets Any (Front (s .outs)) (fronts (s .outs)) m q (prog-any q) u g t s (tail-any t) (starts s));
-  by-arms = λ g w l as₁ y s. shown-of (by-shape-meets Any (Front (s .outs)) (fronts (s .outs)) m q (prog-any q) u g w l as₁ y s (arms-any as₁) (shape-any y) (starts s));
+  by-arms =
+      λ g w l as₁ y s. shown-of (by-shape-meets Any (Front (s .outs)) (fronts (s .outs)) m q (prog-any q) u g w l as₁ y s (arms-any as₁)
+      (shape-any y) (starts s));
   by-execs = λ g ss s. shown-of (execs-meets Any (Front (s .outs)) (fronts (s .outs)) m q (prog-any q) u g ss s (stmts-any ss) (starts s));
   by-block = λ g h ss s. shown-of (block-meets Any (Front (s .outs)) (fronts (s .outs)) m q (prog-any q) u g h ss s (stmts-any ss) (starts s));
   by-exec = λ g x s. shown-of (exec-meets Any (Front (s .outs)) (fronts (s .outs)) m q (prog-any q) u g x s (stmt-any x) (starts s));
-  by-alts = λ g w l as₁ y s. shown-of (by-alt-meets Any (Front (s .outs)) (fronts (s .outs)) m q (prog-any q) u g w l as₁ y s (alts-any as₁) (shape-any y) (starts s));
+  by-alts =
+      λ g w l as₁ y s. shown-of (by-alt-meets Any (Front (s .outs)) (fronts (s .outs)) m q (prog-any q) u g w l as₁ y s (alts-any as₁)
+      (shape-any y) (starts s));
   by-ends = λ g s. shown-of (ends-meets Any (Front (s .outs)) (fronts (s .outs)) m q (prog-any q) u g s (starts s));
   by-drops = λ v s. shown-of (drops-meets Any (Front (s .outs)) (fronts (s .outs)) m q (prog-any q) u v s (value-any v) (starts s));
-  by-lasts = λ f v s. shown-of (lasts-meets Any (Front (s .outs)) (fronts (s .outs)) m q (prog-any q) u f v s (body-any (f .does)) (value-any v) (starts s));
+  by-lasts =
+      λ f v s. shown-of (lasts-meets Any (Front (s .outs)) (fronts (s .outs)) m q (prog-any q) u f v s (body-any (f .does)) (value-any v) (starts s));
   by-parts = λ v s. shown-of (parts-meets Any (Front (s .outs)) (fronts (s .outs)) m q (prog-any q) u v s (value-any v) (starts s));
   by-drops-all = λ vs s. shown-of (drops-all-meets Any (Front (s .outs)) (fronts (s .outs)) m q (prog-any q) u vs s (values-any vs) (starts s));
 }

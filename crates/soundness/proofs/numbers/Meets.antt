@@ -35,7 +35,8 @@ choose-meets false h k = k
 abbrev pub turned : State → State
 turned s = record { roots = s .roots; classes = s .classes; under = s .under; turns = suc (s .turns); ins = s .ins; outs = s .outs }
 
-pub turn-meets : {A : Type 0} {V : A → Type 0} {P : State → Type 0} (m : Limits) (s : State) (f : State → Res A) → P s → Meets V P (f (turned s)) → Meets V P (turn m s f)
+pub turn-meets : {A : Type 0} {V : A → Type 0} {P : State → Type 0} (m : Limits) (s : State) (f : State → Res A) → P s → Meets V P (f (turned s))
+    → Meets V P (turn m s f)
 unfolding turn
 turn-meets m s f p h = choose-meets (ltb (s .turns) (m .max-turns)) h (by-stop p)
 

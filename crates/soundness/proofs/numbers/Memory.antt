@@ -62,9 +62,11 @@ module _ (L : ℕ → Type 0) where
   put-path-numbers : (is : List ℕ) (w v : Value) → Numbers L w → Numbers L v → Numbers L (put-path is w v)
   put-path-numbers [] w v k h = k
   put-path-numbers (i ∷ is) w (int-v x) k h = h
-  put-path-numbers (i ∷ is) w (con-v x vs) k h = put-numbers vs i (from-option (nth-v vs i) hole (put-path is w)) h (go (nth-v vs i) refl (λ v. put-path-numbers is w v k))
+  put-path-numbers (i ∷ is) w (con-v x vs) k h =
+      put-numbers vs i (from-option (nth-v vs i) hole (put-path is w)) h (go (nth-v vs i) refl (λ v. put-path-numbers is w v k))
     where
-      go : (o : Option Value) → nth-v vs i ≡ o → ((v : Value) → Numbers L v → Numbers L (put-path is w v)) → Numbers L (from-option o hole (put-path is w))
+      go : (o : Option Value) → nth-v vs i ≡ o → ((v : Value) → Numbers L v → Numbers L (put-path is w v))
+          → Numbers L (from-option o hole (put-path is w))
       go none e ih = tt
       go (some v) e ih = ih v (nth-numbers vs i v h e)
   put-path-numbers (i ∷ is) w (box-v r) k h = tt
@@ -93,7 +95,8 @@ module _ (L : ℕ → Type 0) where
       path-numbers (l .path) (a .0 .val) v (rw same at (every-at (s .roots) (l .root) (y .0) h (y .1))) (a .2)
 
   module _ (Q : List ℕ → Type 0) where
-    pub write-numbers : (s : State) (l : Loc) (v : Value) (t : State) → State-numbers L Q s → Numbers L v → write-at s l v ≡ some t → State-numbers L Q t
+    pub write-numbers : (s : State) (l : Loc) (v : Value) (t : State) → State-numbers L Q s → Numbers L v → write-at s l v ≡ some t
+        → State-numbers L Q t
     write-numbers s l v t h k e =
         let live = λ (x : Root). choose (x .live) (some x) none in
         let a = if-some-is (if-some (at-place (s .roots) (l .root)) live) (λ x. if-some (at-path (l .path) (x .val)) (λ old. some _)) t e in
@@ -101,7 +104,9 @@ module _ (L : ℕ → Type 0) where
         let same : y .0 ≡ a .0 = live-is (y .0) (a .0) (y .2) in
         let at-root : Numbers L (a .0 .val) = rw same at (every-at (s .roots) (l .root) (y .0) (h .stored) (y .1)) in
         let o = if-some-is (at-path (l .path) (a .0 .val)) _ t (a .2) in
-        let written : Every Root-numbers (set-at (s .roots) (l .root) _) = every-set (s .roots) (l .root) (record { live = true; val = put-path (l .path) v (a .0 .val); words = a .0 .words }) (h .stored) (put-path-numbers (l .path) v (a .0 .val) k at-root) in
+        let written : Every Root-numbers (set-at (s .roots) (l .root) _) = every-set (s .roots) (l .root)
+        (record { live = true; val = put-path (l .path) v (a .0 .val); words = a .0 .words }) (h .stored)
+        (put-path-numbers (l .path) v (a .0 .val) k at-root) in
         subst (State-numbers L Q) (some-is (o .2)) (record { stored = written; shown = h .shown })
 
     pub push-numbers : (s : State) (v : Value) (k : ℕ) → State-numbers L Q s → Numbers L v → State-numbers L Q (adds-root s v k)
@@ -110,7 +115,15 @@ module _ (L : ℕ → Type 0) where
     pub kill-numbers : (s : State) (r : ℕ) → State-numbers L Q s → State-numbers L Q (kill s r)
     kill-numbers s r h = go (at-place (s .roots) r)
       where
-        go : (o : Option Root) → State-numbers L Q (from-option o s (λ x. record { roots = set-at (s .roots) r (record { live = false; val = hole; words = x .words }); classes = s .classes; under = s .under; turns = s .turns; ins = s .ins; outs = s .outs }))
+        go : (o : Option Root) → State-numbers L Q
+            (from-option o s (λ x. record {
+              roots = set-at (s .roots) r (record { live = false; val = hole; words = x .words });
+              classes = s .classes;
+              under = s .under;
+              turns = s .turns;
+              ins = s .ins;
+              outs = s .outs;
+            }))
         go none = h
         go (some x) = record { stored = every-set (s .roots) r _ (h .stored) tt; shown = h .shown }
 

@@ -48,7 +48,14 @@ shown-snoc [] k h e = (h, tt)
 shown-snoc (x ∷ os) k h e = (e .0, shown-snoc os k h (e .1))
 
 words-closed : Closed Word (Every Shown)
-words-closed = record { worked-out = worked-small; read-in = read-small; shown-next = λ os k h e. shown-snoc os k (inl h) e; marked = λ os e. shown-snoc os two-64 (inr refl) e }
+words-closed =
+    record {
+      worked-out = worked-small;
+      read-in = read-small;
+      shown-next = λ os k h e. shown-snoc os k (inl h) e;
+      marked = λ os e.
+          shown-snoc os two-64 (inr refl) e;
+    }
 
 pub words-kept : Words-kept
 words-kept text q e m u = numbers-kept Word (Every Shown) words-closed m q (text-literals text q e) u
@@ -62,4 +69,5 @@ shown-small text q e u m ins =
     let lits : Literals Word q = text-literals text q e in
     let start : State-numbers Word (Every Shown) (blank ins) = record { stored = tt; shown = tt } in
     small-of (need-meets (blank ins) (fn-named (q .funs) w-main) start (λ f ef.
-    calls-meets Word (Every Shown) words-closed m q lits u f [] (blank ins) (fn-literals Word (Every Shown) words-closed (q .funs) w-main f lits ef) tt start))
+    calls-meets Word (Every Shown) words-closed m q lits u f [] (blank ins)
+    (fn-literals Word (Every Shown) words-closed (q .funs) w-main f lits ef) tt start))

@@ -33,7 +33,8 @@ pub like-gone : (z : Bool) (g : Env) (x : Lexeme) → Env-like g (set-gone z g x
 like-gone z [] x = tt
 like-gone z (v ∷ g) x = go (same (v .name) x) (like-gone z g x)
   where
-    go : (y : Bool) → Env-like g (set-gone z g x) → Env-like (v ∷ g) (choose y (record { name = v .name; ty = v .ty; gone = z; loans = v .loans } ∷ g) (v ∷ set-gone z g x))
+    go : (y : Bool) → Env-like g (set-gone z g x)
+        → Env-like (v ∷ g) (choose y (record { name = v .name; ty = v .ty; gone = z; loans = v .loans } ∷ g) (v ∷ set-gone z g x))
     go true h = (refl, refl, refl, like-self g)
     go false h = (refl, refl, refl, h)
 
@@ -54,7 +55,8 @@ shared-like held g v (box t) r e = env-is g (ref (box t)) (loan (v .name) false 
 shared-like held g v (ref t) r e = absurd (no-some e)
 shared-like held g v (mut t) r e = env-is g (ref t) (loan (v .name) false ∷ []) g r (like-self g) (only-is _ _ r e .1)
 
-with-is : (o : Option Typed) (t : Ty) (f : List Loan → Env → Option Typed) (r : Typed) → with-ty o t f ≡ some r → (y : Typed) × (o ≡ some y) × (f (y .loans) (y .env) ≡ some r)
+with-is : (o : Option Typed) (t : Ty) (f : List Loan → Env → Option Typed) (r : Typed) → with-ty o t f ≡ some r
+    → (y : Typed) × (o ≡ some y) × (f (y .loans) (y .env) ≡ some r)
 with-is none t f r e = absurd (no-some e)
 with-is (some y) t f r e = (y, refl, only-is (same-ty (y .ty) t) (f (y .loans) (y .env)) r e .1)
 
@@ -65,21 +67,32 @@ mutual
   expr-like q held g (op o a d) r h =
       let y = with-is (expr q held g a) int (λ ls k. with-ty (expr q held k d) int (λ ms i. typed int [] i)) r h in
       let z = with-is (expr q held (y .0 .env) d) int (λ ms i. typed int [] i) r (y .2) in
-      like-then g (y .0 .env) (r .env) (expr-like q held g a (y .0) (y .1)) (env-is (y .0 .env) int [] (z .0 .env) r (expr-like q held (y .0 .env) d (z .0) (z .1)) (z .2))
+      like-then g (y .0 .env) (r .env) (expr-like q held g a (y .0) (y .1))
+      (env-is (y .0 .env) int [] (z .0 .env) r (expr-like q held (y .0 .env) d (z .0) (z .1)) (z .2))
   expr-like q held g (ctor k es) r h =
-      let y = if-some-is (home-of (q .datas) k) (λ hm. if-some (args q held g es (hm .ctor1 .fields)) (λ r2. typed (dat (hm .data1 .name)) [] (r2 .env))) r h in
+      let y = if-some-is (home-of (q .datas) k)
+      (λ hm. if-some (args q held g es (hm .ctor1 .fields)) (λ r2. typed (dat (hm .data1 .name)) [] (r2 .env))) r h in
       let z = if-some-is (args q held g es (y .0 .ctor1 .fields)) (λ r2. typed (dat (y .0 .data1 .name)) [] (r2 .env)) r (y .2) in
       env-is g (dat (y .0 .data1 .name)) [] (z .0 .env) r (args-like q held g es (y .0 .ctor1 .fields) (z .0) (z .1)) (z .2)
   expr-like q held g (boxed a) r h =
       let y = if-some-is (expr q held g a) (λ r2. only-if (owned (r2 .ty)) (typed (box (r2 .ty)) [] (r2 .env))) r h in
-      env-is g (box (y .0 .ty)) [] (y .0 .env) r (expr-like q held g a (y .0) (y .1)) (only-is (owned (y .0 .ty)) (typed (box (y .0 .ty)) [] (y .0 .env)) r (y .2) .1)
+      env-is g (box (y .0 .ty)) [] (y .0 .env) r (expr-like q held g a (y .0) (y .1))
+      (only-is (owned (y .0 .ty)) (typed (box (y .0 .ty)) [] (y .0 .env)) r (y .2) .1)
   expr-like q held g (call f es) r h =
-      let y = if-some-is (fn-named (q .funs) f) (λ k. if-some (args q held g es (types-of-pars (k .pars))) (λ r2. typed (k .ret) (holds (k .ret) (r2 .loans)) (r2 .env))) r h in
-      let z = if-some-is (args q held g es (types-of-pars (y .0 .pars))) (λ r2. typed (y .0 .ret) (holds (y .0 .ret) (r2 .loans)) (r2 .env)) r (y .2) in
+      let y = if-some-is (fn-named (q .funs) f)
+      (λ k. if-some (args q held g es (types-of-pars (k .pars))) (λ r2. typed (k .ret) (holds (k .ret) (r2 .loans)) (r2 .env))) r h in
+      let z = if-some-is (args q held g es (types-of-pars (y .0 .pars)))
+      (λ r2. typed (y .0 .ret) (holds (y .0 .ret) (r2 .loans)) (r2 .env)) r (y .2) in
       env-is g (y .0 .ret) (holds (y .0 .ret) (z .0 .loans)) (z .0 .env) r (args-like q held g es (types-of-pars (y .0 .pars)) (z .0) (z .1)) (z .2)
-  expr-like q held g (share x) r h = let y = if-some-is (there g x) (λ v. shared held g v (v .ty)) r h in shared-like held g (y .0) (y .0 .ty) r (y .2)
-  expr-like q held g (lend x) r h = let y = if-some-is (there g x) (λ v. only-if (owned (v .ty) && is-free (held ++ all-loans g) x) (typed (mut (v .ty)) (loan x true ∷ []) g)) r h in env-is g (mut (y .0 .ty)) (loan x true ∷ []) g r (like-self g) (only-is (owned (y .0 .ty) && is-free (held ++ all-loans g) x) (typed (mut (y .0 .ty)) (loan x true ∷ []) g) r (y .2) .1)
-  expr-like q held g (load x) r h = let y = if-some-is (there g x) (λ v. only-if (loadable (v .ty) && readable (held ++ all-loans g) x) (typed int [] g)) r h in env-is g int [] g r (like-self g) (only-is (loadable (y .0 .ty) && readable (held ++ all-loans g) x) (typed int [] g) r (y .2) .1)
+  expr-like q held g (share x) r h =
+      let y = if-some-is (there g x) (λ v. shared held g v (v .ty)) r h in shared-like held g (y .0) (y .0 .ty) r (y .2)
+  expr-like q held g (lend x) r h =
+      let y = if-some-is (there g x) (λ v. only-if (owned (v .ty) && is-free (held ++ all-loans g) x)
+      (typed (mut (v .ty)) (loan x true ∷ []) g)) r h in env-is g (mut (y .0 .ty)) (loan x true ∷ []) g r (like-self g)
+      (only-is (owned (y .0 .ty) && is-free (held ++ all-loans g) x) (typed (mut (y .0 .ty)) (loan x true ∷ []) g) r (y .2) .1)
+  expr-like q held g (load x) r h =
+      let y = if-some-is (there g x) (λ v. only-if (loadable (v .ty) && readable (held ++ all-loans g) x) (typed int [] g)) r h in
+      env-is g int [] g r (like-self g) (only-is (loadable (y .0 .ty) && readable (held ++ all-loans g) x) (typed int [] g) r (y .2) .1)
   expr-like q held g get-e r h = env-is g int [] g r (like-self g) h
 
   pub args-like : (q : Prog) (held : List Loan) (g : Env) (es : Exprs) (ts : List Ty) (r : Typed) → args q held g es ts ≡ some r → Env-like g (r .env)
@@ -89,7 +102,9 @@ mutual
   args-like q held g (cons-e e es) (t ∷ ts) r h =
       let y = with-is (expr q held g e) t (λ ls k. if-some (args q (ls ++ held) k es ts) (λ r2. typed int (ls ++ r2 .loans) (r2 .env))) r h in
       let z = if-some-is (args q (y .0 .loans ++ held) (y .0 .env) es ts) (λ r2. typed int (y .0 .loans ++ r2 .loans) (r2 .env)) r (y .2) in
-      like-then g (y .0 .env) (r .env) (expr-like q held g e (y .0) (y .1)) (env-is (y .0 .env) int (y .0 .loans ++ z .0 .loans) (z .0 .env) r (args-like q (y .0 .loans ++ held) (y .0 .env) es ts (z .0) (z .1)) (z .2))
+      like-then g (y .0 .env) (r .env) (expr-like q held g e (y .0) (y .1))
+      (env-is (y .0 .env) int (y .0 .loans ++ z .0 .loans) (z .0 .env) r
+      (args-like q (y .0 .loans ++ held) (y .0 .env) es ts (z .0) (z .1)) (z .2))
 
 -- environments that differ by flags
 pub look-name : (g : ch.Env) (x : Lexeme) (v : Var) → look g x ≡ some v → v .name ≡ x

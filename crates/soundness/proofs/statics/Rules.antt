@@ -21,7 +21,8 @@ there-is g x v e = go (look g x) e
     go none e1 = absurd (no-some e1)
     go (some y) e1 = go2 y (y .gone) refl e1
 
-pub as-int-is : (o : Option Typed) (f : Env → Option Env) (g2 : Env) → as-int o f ≡ some g2 → (r : Typed) × (o ≡ some r) × (same-ty (r .ty) int ≡ true) × (f (r .env) ≡ some g2)
+pub as-int-is : (o : Option Typed) (f : Env → Option Env) (g2 : Env) → as-int o f ≡ some g2
+    → (r : Typed) × (o ≡ some r) × (same-ty (r .ty) int ≡ true) × (f (r .env) ≡ some g2)
 as-int-is o f g2 e =
     let y = if-some-is o (λ r. only-if (same-ty (r .ty) int) (f (r .env))) g2 e in
     let z = only-is (same-ty (y .0 .ty) int) (f (y .0 .env)) g2 (y .2) in
@@ -54,6 +55,7 @@ same-ty-is (mut t) (box u) e = absurd (true-false (sym e))
 same-ty-is (mut t) (ref u) e = absurd (true-false (sym e))
 same-ty-is (mut t) (mut u) e = ap mut (same-ty-is t u e)
 
-pub with-ty-is : (x : Option ch.Typed) (t : Ty) (f : List Loan → ch.Env → Option ch.Typed) (r : ch.Typed) → ch.with-ty x t f ≡ some r → (y : ch.Typed) × (x ≡ some y) × (y .ty ≡ t) × (f (y .loans) (y .env) ≡ some r)
+pub with-ty-is : (x : Option ch.Typed) (t : Ty) (f : List Loan → ch.Env → Option ch.Typed) (r : ch.Typed) → ch.with-ty x t f ≡ some r
+    → (y : ch.Typed) × (x ≡ some y) × (y .ty ≡ t) × (f (y .loans) (y .env) ≡ some r)
 with-ty-is none t f r e = absurd (no-some e)
 with-ty-is (some y) t f r e = let k = only-is (ch.same-ty (y .ty) t) (f (y .loans) (y .env)) r e in (y, refl, same-ty-is (y .ty) t (k .0), k .1)

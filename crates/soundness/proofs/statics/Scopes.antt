@@ -78,7 +78,8 @@ pub outer-is : (g g2 h : Env) → Env-like g g2 → Looks-same g2 h → outer g 
 outer-is [] [] h k s = refl
 outer-is [] (w ∷ g2) h k s = absurd k
 outer-is (v ∷ g) [] h k s = absurd k
-outer-is (v ∷ g) (w ∷ g2) h k s = ap (λ z. from-option z v (λ y. y) ∷ outer g h) (ap (look h) (k .0) ∙ s .0) ∙ ap (λ z. w ∷ z) (outer-is g g2 h (k .3) (s .1))
+outer-is (v ∷ g) (w ∷ g2) h k s =
+    ap (λ z. from-option z v (λ y. y) ∷ outer g h) (ap (look h) (k .0) ∙ s .0) ∙ ap (λ z. w ∷ z) (outer-is g g2 h (k .3) (s .1))
 
 pub both-like : (g h : Env) → Env-like g (both g h)
 both-like [] h = tt
@@ -92,7 +93,14 @@ both-seen : (g g2 h : Env) → Env-like g g2 → Looks-same g2 h → Weaker g2 (
 both-seen [] [] h k s = tt
 both-seen [] (w ∷ g2) h k s = absurd k
 both-seen (v ∷ g) [] h k s = absurd k
-both-seen (v ∷ g) (w ∷ g2) h k s = (sym (k .0), sym (k .1), sym (k .2), (λ e. or-right (v .gone) (from-option (look h (v .name)) false (λ y. y .gone)) (ap (λ z. from-option (look h z) false (λ y. y .gone)) (k .0) ∙ ap (λ z. from-option z false (λ y. y .gone)) (s .0) ∙ e)), both-seen g g2 h (k .3) (s .1))
+both-seen (v ∷ g) (w ∷ g2) h k s = (
+  sym (k .0),
+  sym (k .1),
+  sym (k .2),
+  (λ e. or-right (v .gone) (from-option (look h (v .name)) false (λ y. y .gone))
+      (ap (λ z. from-option (look h z) false (λ y. y .gone)) (k .0) ∙ ap (λ z. from-option z false (λ y. y .gone)) (s .0) ∙ e)),
+  both-seen g g2 h (k .3) (s .1),
+)
 
 pub both-right : (g h : Env) → Env-like g h → Distinct h → Weaker h (both g h)
 both-right g h k u = both-seen g h h k (seen-self h u)
@@ -105,7 +113,8 @@ less-seen (v ∷ g) (w ∷ g2) h k s e = (
   sym (k .0),
   sym (k .1),
   sym (k .2),
-  (λ wg. go (v .gone) (w .gone) wg (ap (λ z. v .gone || not (from-option z true (λ y. y .gone))) (sym (ap (look h) (k .0) ∙ s .0)) ∙ and-left (v .gone || not (from-option (look h (v .name)) true (λ y. y .gone))) (no-more-gone g h) e)),
+  (λ wg. go (v .gone) (w .gone) wg (ap (λ z. v .gone || not (from-option z true (λ y. y .gone))) (sym (ap (look h) (k .0) ∙ s .0)) ∙ and-left
+      (v .gone || not (from-option (look h (v .name)) true (λ y. y .gone))) (no-more-gone g h) e)),
   less-seen g g2 h (k .3) (s .1) (and-right (v .gone || not (from-option (look h (v .name)) true (λ y. y .gone))) (no-more-gone g h) e),
 )
   where
@@ -132,7 +141,13 @@ grows-like g h u k = record { newer = []; older = h; is = refl; like = k; distin
 pub grows-then : (f g h : Env) → Grows f g → Grows g h → Grows f h
 grows-then f g h a z =
     let r = like-split (a .newer) (a .older) (z .older) (subst (λ y. Env-like y (z .older)) (a .is) (z .like)) in
-    record { newer = z .newer ++ r .0; older = r .1; is = z .is ∙ ap (λ y. z .newer ++ y) (r .2) ∙ sym (append-assoc (z .newer) (r .0) (r .1)); like = like-then f (a .older) (r .1) (a .like) (r .4); distinct = z .distinct }
+    record {
+      newer = z .newer ++ r .0;
+      older = r .1;
+      is = z .is ∙ ap (λ y. z .newer ++ y) (r .2) ∙ sym (append-assoc (z .newer) (r .0) (r .1));
+      like = like-then f (a .older) (r .1) (a .like) (r .4);
+      distinct = z .distinct;
+    }
 
 pub fresh-none : (g : Env) (x : Lexeme) → fresh g x ≡ true → look g x ≡ none
 fresh-none g x e = go (look g x) e
@@ -142,11 +157,21 @@ fresh-none g x e = go (look g x) e
     go (some v) e1 = absurd (true-false (sym e1))
 
 pub grows-enter : (g h : Env) (x : Lexeme) (t : Ty) (ls : List Loan) → Grows g h → look h x ≡ none → Grows g (enter h x t ls)
-grows-enter g h x t ls a e = record { newer = record { name = x; ty = t; gone = false; loans = ls } ∷ a .newer; older = a .older; is = ap (λ z. record { name = x; ty = t; gone = false; loans = ls } ∷ z) (a .is); like = a .like; distinct = (e, a .distinct) }
+grows-enter g h x t ls a e =
+    record {
+      newer = record { name = x; ty = t; gone = false; loans = ls } ∷ a .newer;
+      older = a .older;
+      is = ap
+          (λ z. record { name = x; ty = t; gone = false; loans = ls } ∷ z) (a .is);
+      like = a .like;
+      distinct = (e, a .distinct);
+    }
 
 -- what outer gives behind statements
 pub outer-grows : (g h : Env) (a : Grows g h) → outer g h ≡ a .older
-outer-grows g h a = outer-is g (a .older) h (a .like) (subst (Looks-same (a .older)) (sym (a .is)) (seen-up (a .newer) (a .older) (subst Distinct (a .is) (a .distinct))))
+outer-grows g h a =
+    outer-is g (a .older) h (a .like) (subst (Looks-same (a .older)) (sym (a .is))
+    (seen-up (a .newer) (a .older) (subst Distinct (a .is) (a .distinct))))
 
 pub outer-like : (g h : Env) → Grows g h → Env-like g (outer g h)
 outer-like g h a = subst (Env-like g) (sym (outer-grows g h a)) (a .like)
@@ -155,16 +180,28 @@ outer-like g h a = subst (Env-like g) (sym (outer-grows g h a)) (a .like)
 pub outer-part : (gk gh h : Env) → Grows (gk ++ gh) h → (K : Env) × (g2 : Env) × (h ≡ K ++ g2) × Env-like gh g2 × (outer gh h ≡ g2)
 outer-part gk gh h a =
     let r = like-split gk gh (a .older) (a .like) in
-    let e : h ≡ (a .newer ++ r .0) ++ r .1 = a .is ∙ ap (λ y. a .newer ++ y) (r .2) ∙ sym (append-assoc (a .newer) (r .0) (r .1)) in
-    (a .newer ++ r .0, r .1, e, r .4, outer-is gh (r .1) h (r .4) (subst (Looks-same (r .1)) (sym e) (seen-up (a .newer ++ r .0) (r .1) (subst Distinct e (a .distinct)))))
+    let e : h ≡ (a .newer ++ r .0) ++ r .1 = a .is ∙ ap (λ y. a .newer ++ y) (r .2) ∙ sym (append-assoc (a .newer) (r .0) (r .1)) in (
+      a .newer ++ r .0,
+      r .1,
+      e,
+      r .4,
+      outer-is gh (r .1) h (r .4)
+          (subst (Looks-same (r .1)) (sym e) (seen-up (a .newer ++ r .0) (r .1) (subst Distinct e (a .distinct)))),
+    )
 
 pub grows-lent : (qs : List Lexeme) (g h : Env) → Grows g h → Ref-params qs g → Ref-params qs h
 grows-lent qs g h a lp x i =
-    let r = lent-like qs g (a .older) (a .like) lp x i in
-    (r .0, subst (λ z. look z x ≡ some (r .0)) (sym (a .is)) (look-up (a .newer) (a .older) x (r .0) (subst Distinct (a .is) (a .distinct)) (r .1)), r .2, r .3)
+    let r = lent-like qs g (a .older) (a .like) lp x i in (
+      r .0,
+      subst (λ z. look z x ≡ some (r .0)) (sym (a .is))
+          (look-up (a .newer) (a .older) x (r .0) (subst Distinct (a .is) (a .distinct)) (r .1)),
+      r .2,
+      r .3,
+    )
 
 -- the rules
-pub bind-grows : (w : Access) (ls : List Loan) (g : Env) (xs : List Lexeme) (ts : List Ty) (h : Env) → Distinct g → bind-all w ls g xs ts ≡ some h → (K : Env) × (h ≡ K ++ g) × Distinct h
+pub bind-grows : (w : Access) (ls : List Loan) (g : Env) (xs : List Lexeme) (ts : List Ty) (h : Env) → Distinct g → bind-all w ls g xs ts ≡ some h
+    → (K : Env) × (h ≡ K ++ g) × Distinct h
 bind-grows w ls g [] [] h u e = ([], sym (some-is e), subst Distinct (some-is e) u)
 bind-grows w ls g [] (t ∷ ts) h u e = absurd (no-some e)
 bind-grows w ls g (x ∷ xs) [] h u e = absurd (no-some e)
@@ -178,22 +215,26 @@ matched-env : (o : Option Data) (ls : List Loan) (g : Env) (mm : Matched) → ma
 matched-env none ls g mm e = absurd (no-some e)
 matched-env (some d) ls g mm e = ap (λ z. z .env) (some-is e)
 
-looked : (z : Bool) (o : Option Data) (ls : List Loan) (g h : Env) (mm : Matched) → Env-like g h → only-if z (matched o ls h) ≡ some mm → Env-like g (mm .env)
+looked : (z : Bool) (o : Option Data) (ls : List Loan) (g h : Env) (mm : Matched) → Env-like g h → only-if z (matched o ls h) ≡ some mm
+    → Env-like g (mm .env)
 looked z o ls g h mm k e = subst (Env-like g) (matched-env o ls h mm (only-is z (matched o ls h) mm e .1)) k
 
 pub looks-like : (q : Prog) (g : Env) (v : Var) (w : Access) (t : Ty) (mm : Matched) → looks-at q g v w t ≡ some mm → Env-like g (mm .env)
 looks-like q g v take int mm e = absurd (no-some e)
-looks-like q g v take (dat d) mm e = looked (is-free (all-loans g) (v .name)) (data-named (q .datas) d) [] g (set-gone true g (v .name)) mm (like-gone true g (v .name)) e
+looks-like q g v take (dat d) mm e =
+    looked (is-free (all-loans g) (v .name)) (data-named (q .datas) d) [] g (set-gone true g (v .name)) mm (like-gone true g (v .name)) e
 looks-like q g v take (box t) mm e = absurd (no-some e)
 looks-like q g v take (ref t) mm e = absurd (no-some e)
 looks-like q g v take (mut t) mm e = absurd (no-some e)
 looks-like q g v view int mm e = absurd (no-some e)
-looks-like q g v view (dat d) mm e = looked (readable (all-loans g) (v .name)) (data-named (q .datas) d) (loan (v .name) false ∷ []) g g mm (like-self g) e
+looks-like q g v view (dat d) mm e =
+    looked (readable (all-loans g) (v .name)) (data-named (q .datas) d) (loan (v .name) false ∷ []) g g mm (like-self g) e
 looks-like q g v view (box t) mm e = absurd (no-some e)
 looks-like q g v view (ref t) mm e = looked (readable (all-loans g) (v .name)) (data-of q t) (v .loans) g g mm (like-self g) e
 looks-like q g v view (mut t) mm e = looked (readable (all-loans g) (v .name)) (data-of q t) (loan (v .name) false ∷ []) g g mm (like-self g) e
 looks-like q g v edit int mm e = absurd (no-some e)
-looks-like q g v edit (dat d) mm e = looked (is-free (all-loans g) (v .name)) (data-named (q .datas) d) (loan (v .name) true ∷ []) g g mm (like-self g) e
+looks-like q g v edit (dat d) mm e =
+    looked (is-free (all-loans g) (v .name)) (data-named (q .datas) d) (loan (v .name) true ∷ []) g g mm (like-self g) e
 looks-like q g v edit (box t) mm e = absurd (no-some e)
 looks-like q g v edit (ref t) mm e = absurd (no-some e)
 looks-like q g v edit (mut t) mm e = looked (is-free (all-loans g) (v .name)) (data-of q t) (loan (v .name) true ∷ []) g g mm (like-self g) e

@@ -28,8 +28,12 @@ goes-env g v x (ref t) h e =
     let y = if-some-is (boxed-in t) (λ u. only-if (readable (all-loans g) (v .name)) (some (enter g x (ref u) (v .loans)))) h e in
     (ref (y .0), v .loans, some-is (only-is (readable (all-loans g) (v .name)) (some (enter g x (ref (y .0)) (v .loans))) h (y .2) .1))
 goes-env g v x (mut t) h e =
-    let y = if-some-is (boxed-in t) (λ u. only-if (is-free (all-loans g) (v .name)) (some (enter g x (mut u) (loan (v .name) true ∷ [])))) h e in
-    (mut (y .0), loan (v .name) true ∷ [], some-is (only-is (is-free (all-loans g) (v .name)) (some (enter g x (mut (y .0)) (loan (v .name) true ∷ []))) h (y .2) .1))
+    let y = if-some-is (boxed-in t) (λ u. only-if (is-free (all-loans g) (v .name)) (some (enter g x (mut u) (loan (v .name) true ∷ [])))) h e in (
+      mut (y .0),
+      loan (v .name) true ∷ [],
+      some-is
+          (only-is (is-free (all-loans g) (v .name)) (some (enter g x (mut (y .0)) (loan (v .name) true ∷ []))) h (y .2) .1),
+    )
 
 grows-is : (g h i : Env) → Grows g h → h ≡ i → Grows g i
 grows-is g h i a e = subst (Grows g) e a
@@ -39,11 +43,20 @@ choose-like g true h i a k = a
 choose-like g false h i a k = k
 
 -- what an alternative that's accepted says: (ctor, names bound, names behind, names behind the others, ..)
-pub alt-is : (q : Prog) (g : Env) (w : Access) (ls : List Loan) (d : Data) (k : Lexeme) (xs : List Lexeme) (ss : Stmts) (as₁ : Alts) (h : Env) → alts q g w ls d (alt k xs ss as₁) ≡ some h → (kk : Ctor) × (i : Env) × (j : Env) × (l : Env) × (ctor-named (d .ctors) k ≡ some kk) × (bind-all w ls g xs (kk .fields) ≡ some i) × (stmts q i ss ≡ some j) × (alts q g w ls d as₁ ≡ some l) × (choose (is-no-alts as₁) (outer g j) (both (outer g j) l) ≡ h)
+pub alt-is : (q : Prog) (g : Env) (w : Access) (ls : List Loan) (d : Data) (k : Lexeme) (xs : List Lexeme) (ss : Stmts) (as₁ : Alts) (h : Env)
+    → alts q g w ls d (alt k xs ss as₁) ≡ some h
+    → (kk : Ctor) × (i : Env) × (j : Env) × (l : Env) × (ctor-named (d .ctors) k ≡ some kk) × (bind-all w ls g xs (kk .fields) ≡ some i)
+    × (stmts q i ss ≡ some j) × (alts q g w ls d as₁ ≡ some l) × (choose (is-no-alts as₁) (outer g j) (both (outer g j) l) ≡ h)
 alt-is q g w ls d k xs ss as₁ h e =
-    let y = if-some-is (ctor-named (d .ctors) k) (λ kk. if-some (bind-all w ls g xs (kk .fields)) (λ i. if-some (stmts q i ss) (λ j. if-some (alts q g w ls d as₁) (λ l. some (choose (is-no-alts as₁) (outer g j) (both (outer g j) l)))))) h e in
-    let y2 = if-some-is (bind-all w ls g xs (y .0 .fields)) (λ i. if-some (stmts q i ss) (λ j. if-some (alts q g w ls d as₁) (λ l. some (choose (is-no-alts as₁) (outer g j) (both (outer g j) l))))) h (y .2) in
-    let y3 = if-some-is (stmts q (y2 .0) ss) (λ j. if-some (alts q g w ls d as₁) (λ l. some (choose (is-no-alts as₁) (outer g j) (both (outer g j) l)))) h (y2 .2) in
+    let y = if-some-is (ctor-named (d .ctors) k)
+    (λ kk. if-some (bind-all w ls g xs (kk .fields))
+    (λ i. if-some (stmts q i ss) (λ j. if-some (alts q g w ls d as₁)
+    (λ l. some (choose (is-no-alts as₁) (outer g j) (both (outer g j) l)))))) h e in
+    let y2 = if-some-is (bind-all w ls g xs (y .0 .fields))
+    (λ i. if-some (stmts q i ss) (λ j. if-some (alts q g w ls d as₁) (λ l. some (choose (is-no-alts as₁) (outer g j) (both (outer g j) l))))) h
+    (y .2) in
+    let y3 = if-some-is (stmts q (y2 .0) ss)
+    (λ j. if-some (alts q g w ls d as₁) (λ l. some (choose (is-no-alts as₁) (outer g j) (both (outer g j) l)))) h (y2 .2) in
     let y4 = if-some-is (alts q g w ls d as₁) (λ l. some (choose (is-no-alts as₁) (outer g (y3 .0)) (both (outer g (y3 .0)) l))) h (y3 .2) in
     (y .0, y2 .0, y3 .0, y4 .0, y .1, y2 .1, y3 .1, y4 .1, some-is (y4 .2))
 
@@ -52,17 +65,29 @@ mutual
   stmt-grows q g (bind x a) h u e =
       let y = if-some-is (expr q [] g a) (λ r. only-if (fresh (r .env) x) (some (enter (r .env) x (r .ty) (r .loans)))) h e in
       let z = only-is (fresh (y .0 .env) x) (some (enter (y .0 .env) x (y .0 .ty) (y .0 .loans))) h (y .2) in
-      grows-is g (enter (y .0 .env) x (y .0 .ty) (y .0 .loans)) h (grows-enter g (y .0 .env) x (y .0 .ty) (y .0 .loans) (grows-like g (y .0 .env) u (expr-like q [] g a (y .0) (y .1))) (fresh-none (y .0 .env) x (z .0))) (some-is (z .1))
+      grows-is g (enter (y .0 .env) x (y .0 .ty) (y .0 .loans)) h
+      (grows-enter g (y .0 .env) x (y .0 .ty) (y .0 .loans) (grows-like g (y .0 .env) u (expr-like q [] g a (y .0) (y .1)))
+      (fresh-none (y .0 .env) x (z .0))) (some-is (z .1))
   stmt-grows q g (assign x a) h u e =
-      let y = if-some-is (expr q [] g a) (λ r. if-some (look (r .env) x) (λ v. only-if (owned (v .ty) && (same-ty (r .ty) (v .ty) && is-free (all-loans (r .env)) x)) (some (set-gone false (r .env) x)))) h e in
-      let y2 = if-some-is (look (y .0 .env) x) (λ v. only-if (owned (v .ty) && (same-ty (y .0 .ty) (v .ty) && is-free (all-loans (y .0 .env)) x)) (some (set-gone false (y .0 .env) x))) h (y .2) in
-      let z = only-is (owned (y2 .0 .ty) && (same-ty (y .0 .ty) (y2 .0 .ty) && is-free (all-loans (y .0 .env)) x)) (some (set-gone false (y .0 .env) x)) h (y2 .2) in
-      grows-is g (set-gone false (y .0 .env) x) h (grows-like g (set-gone false (y .0 .env) x) u (like-then g (y .0 .env) (set-gone false (y .0 .env) x) (expr-like q [] g a (y .0) (y .1)) (like-gone false (y .0 .env) x))) (some-is (z .1))
+      let y = if-some-is (expr q [] g a) (λ r. if-some (look (r .env) x)
+      (λ v. only-if (owned (v .ty) && (same-ty (r .ty) (v .ty) && is-free (all-loans (r .env)) x)) (some (set-gone false (r .env) x)))) h e in
+      let y2 = if-some-is (look (y .0 .env) x)
+      (λ v. only-if (owned (v .ty) && (same-ty (y .0 .ty) (v .ty) && is-free (all-loans (y .0 .env)) x)) (some (set-gone false (y .0 .env) x))) h
+      (y .2) in
+      let z = only-is (owned (y2 .0 .ty) && (same-ty (y .0 .ty) (y2 .0 .ty) && is-free (all-loans (y .0 .env)) x))
+      (some (set-gone false (y .0 .env) x)) h (y2 .2) in
+      grows-is g (set-gone false (y .0 .env) x) h
+      (grows-like g (set-gone false (y .0 .env) x) u
+      (like-then g (y .0 .env) (set-gone false (y .0 .env) x) (expr-like q [] g a (y .0) (y .1)) (like-gone false (y .0 .env) x)))
+      (some-is (z .1))
   stmt-grows q g (store x a) h u e =
       let y = if-some-is (expr q [] g a) (λ r. if-some (there (r .env) x) (λ v. stores (r .env) x (r .ty) (v .ty))) h e in
       let y2 = if-some-is (there (y .0 .env) x) (λ v. stores (y .0 .env) x (y .0 .ty) (v .ty)) h (y .2) in
-      grows-is g (y .0 .env) h (grows-like g (y .0 .env) u (expr-like q [] g a (y .0) (y .1))) (stores-env (y .0 .env) x (y .0 .ty) (y2 .0 .ty) h (y2 .2))
-  stmt-grows q g (put-s a) h u e = let y = as-int-is (expr q [] g a) (λ k. some k) h e in grows-is g (y .0 .env) h (grows-like g (y .0 .env) u (expr-like q [] g a (y .0) (y .1))) (some-is (y .3))
+      grows-is g (y .0 .env) h (grows-like g (y .0 .env) u (expr-like q [] g a (y .0) (y .1)))
+      (stores-env (y .0 .env) x (y .0 .ty) (y2 .0 .ty) h (y2 .2))
+  stmt-grows q g (put-s a) h u e =
+      let y = as-int-is (expr q [] g a) (λ k. some k) h e in
+      grows-is g (y .0 .env) h (grows-like g (y .0 .env) u (expr-like q [] g a (y .0) (y .1))) (some-is (y .3))
   stmt-grows q g (cond a f1 f2) h u e =
       let y = as-int-is (expr q [] g a) (λ k. if-some (stmts q k f1) (λ i. if-some (stmts q k f2) (λ j. some (both (outer k i) (outer k j))))) h e in
       let k = y .0 .env in
@@ -70,25 +95,36 @@ mutual
       let y2 = if-some-is (stmts q k f1) (λ i. if-some (stmts q k f2) (λ j. some (both (outer k i) (outer k j)))) h (y .3) in
       let y3 = if-some-is (stmts q k f2) (λ j. some (both (outer k (y2 .0)) (outer k j))) h (y2 .2) in
       let gr = stmts-grows q k f1 (y2 .0) (like-distinct g k lk u) (y2 .1) in
-      grows-is g (both (outer k (y2 .0)) (outer k (y3 .0))) h (grows-like g (both (outer k (y2 .0)) (outer k (y3 .0))) u (like-then g k (both (outer k (y2 .0)) (outer k (y3 .0))) lk (like-then k (outer k (y2 .0)) (both (outer k (y2 .0)) (outer k (y3 .0))) (outer-like k (y2 .0) gr) (both-like (outer k (y2 .0)) (outer k (y3 .0)))))) (some-is (y3 .2))
+      grows-is g (both (outer k (y2 .0)) (outer k (y3 .0))) h
+      (grows-like g (both (outer k (y2 .0)) (outer k (y3 .0))) u
+      (like-then g k (both (outer k (y2 .0)) (outer k (y3 .0))) lk
+      (like-then k (outer k (y2 .0)) (both (outer k (y2 .0)) (outer k (y3 .0))) (outer-like k (y2 .0) gr)
+      (both-like (outer k (y2 .0)) (outer k (y3 .0)))))) (some-is (y3 .2))
   stmt-grows q g (loop a f1) h u e =
       let y = as-int-is (expr q [] g a) (λ k. if-some (stmts q k f1) (λ i. only-if (no-more-gone g (outer k i)) (some k))) h e in
       let k = y .0 .env in
       let y2 = if-some-is (stmts q k f1) (λ i. only-if (no-more-gone g (outer k i)) (some k)) h (y .3) in
-      grows-is g k h (grows-like g k u (expr-like q [] g a (y .0) (y .1))) (some-is (only-is (no-more-gone g (outer k (y2 .0))) (some k) h (y2 .2) .1))
+      grows-is g k h (grows-like g k u (expr-like q [] g a (y .0) (y .1)))
+      (some-is (only-is (no-more-gone g (outer k (y2 .0))) (some k) h (y2 .2) .1))
   stmt-grows q g (match-s w x as₁) h u e =
-      let y = if-some-is (there g x) (λ v. if-some (looks-at q g v w (v .ty)) (λ m. only-if (covers (m .data1) (alt-names as₁)) (alts q (m .env) w (m .loans) (m .data1) as₁))) h e in
-      let y2 = if-some-is (looks-at q g (y .0) w (y .0 .ty)) (λ m. only-if (covers (m .data1) (alt-names as₁)) (alts q (m .env) w (m .loans) (m .data1) as₁)) h (y .2) in
+      let y = if-some-is (there g x) (λ v. if-some (looks-at q g v w (v .ty))
+      (λ m. only-if (covers (m .data1) (alt-names as₁)) (alts q (m .env) w (m .loans) (m .data1) as₁))) h e in
+      let y2 = if-some-is (looks-at q g (y .0) w (y .0 .ty))
+      (λ m. only-if (covers (m .data1) (alt-names as₁)) (alts q (m .env) w (m .loans) (m .data1) as₁)) h (y .2) in
       let mm = y2 .0 in
       let z = only-is (covers (mm .data1) (alt-names as₁)) (alts q (mm .env) w (mm .loans) (mm .data1) as₁) h (y2 .2) in
       let lk = looks-like q g (y .0) w (y .0 .ty) mm (y2 .1) in
       grows-like g h u (like-then g (mm .env) h lk (alts-like q (mm .env) w (mm .loans) (mm .data1) as₁ h (like-distinct g (mm .env) lk u) (z .1)))
   stmt-grows q g (open-s x a) h u e =
-      let y = if-some-is (there g a) (λ v. if-some (boxed-in (v .ty)) (λ t. only-if (fresh g x && is-free (all-loans g) a) (some (enter (set-gone true g a) x t [])))) h e in
-      let y2 = if-some-is (boxed-in (y .0 .ty)) (λ t. only-if (fresh g x && is-free (all-loans g) a) (some (enter (set-gone true g a) x t []))) h (y .2) in
+      let y = if-some-is (there g a) (λ v. if-some (boxed-in (v .ty))
+      (λ t. only-if (fresh g x && is-free (all-loans g) a) (some (enter (set-gone true g a) x t [])))) h e in
+      let y2 = if-some-is (boxed-in (y .0 .ty))
+      (λ t. only-if (fresh g x && is-free (all-loans g) a) (some (enter (set-gone true g a) x t []))) h (y .2) in
       let z = only-is (fresh g x && is-free (all-loans g) a) (some (enter (set-gone true g a) x (y2 .0) [])) h (y2 .2) in
       let lk = like-gone true g a in
-      grows-is g (enter (set-gone true g a) x (y2 .0) []) h (grows-enter g (set-gone true g a) x (y2 .0) [] (grows-like g (set-gone true g a) u lk) (fresh-like g (set-gone true g a) x lk (fresh-none g x (and-left (fresh g x) (is-free (all-loans g) a) (z .0))))) (some-is (z .1))
+      grows-is g (enter (set-gone true g a) x (y2 .0) []) h
+      (grows-enter g (set-gone true g a) x (y2 .0) [] (grows-like g (set-gone true g a) u lk)
+      (fresh-like g (set-gone true g a) x lk (fresh-none g x (and-left (fresh g x) (is-free (all-loans g) a) (z .0))))) (some-is (z .1))
   stmt-grows q g (inside x a) h u e =
       let z = only-is (fresh g x) (if-some (there g a) (λ v. goes-in g v x (v .ty))) h e in
       let y = if-some-is (there g a) (λ v. goes-in g v x (v .ty)) h (z .1) in
@@ -102,7 +138,8 @@ mutual
       let a = stmt-grows q g x (y .0) u (y .1) in
       grows-then g (y .0) h a (stmts-grows q (y .0) xs h (a .distinct) (y .2))
 
-  pub alts-like : (q : Prog) (g : Env) (w : Access) (ls : List Loan) (d : Data) (as₁ : Alts) (h : Env) → Distinct g → alts q g w ls d as₁ ≡ some h → Env-like g h
+  pub alts-like : (q : Prog) (g : Env) (w : Access) (ls : List Loan) (d : Data) (as₁ : Alts) (h : Env) → Distinct g
+      → alts q g w ls d as₁ ≡ some h → Env-like g h
   alts-like q g w ls d no-alts h u e = subst (Env-like g) (some-is e) (like-self g)
   alts-like q g w ls d (alt k xs ss as₁) h u e =
       let y = alt-is q g w ls d k xs ss as₁ h e in
@@ -110,10 +147,12 @@ mutual
       let gr0 : Grows g (y .1) = record { newer = bg .0; older = g; is = bg .1; like = like-self g; distinct = bg .2 } in
       let gr = grows-then g (y .1) (y .2) gr0 (stmts-grows q (y .1) ss (y .2) (bg .2) (y .6)) in
       let lk = outer-like g (y .2) gr in
-      subst (Env-like g) (y .8) (choose-like g (is-no-alts as₁) (outer g (y .2)) (both (outer g (y .2)) (y .3)) lk (like-then g (outer g (y .2)) (both (outer g (y .2)) (y .3)) lk (both-like (outer g (y .2)) (y .3))))
+      subst (Env-like g) (y .8) (choose-like g (is-no-alts as₁) (outer g (y .2)) (both (outer g (y .2)) (y .3)) lk
+      (like-then g (outer g (y .2)) (both (outer g (y .2)) (y .3)) lk (both-like (outer g (y .2)) (y .3))))
 
 -- the alternative that's found: what its rule says, and that the names behind all alternatives have at least its flags
-pub record Alt-found (q : Prog) (g : Env) (w : Access) (ls : List Loan) (d : Data) (k : Lexeme) (xs : List Lexeme) (ss : Stmts) (g2 : Env) : Type 0 where
+pub record Alt-found (q : Prog) (g : Env) (w : Access) (ls : List Loan) (d : Data) (k : Lexeme) (xs : List Lexeme) (ss : Stmts)
+    (g2 : Env) : Type 0 where
   pub ctor1 : Ctor
   pub inner : Env
   pub behind : Env
@@ -135,11 +174,13 @@ weak-then (u ∷ f) [] h a k = absurd a
 weak-then (u ∷ f) (v ∷ g) [] a k = absurd k
 weak-then (u ∷ f) (v ∷ g) (w ∷ h) a k = (a .0 ∙ k .0, a .1 ∙ k .1, a .2 ∙ k .2, (λ z. k .3 (a .3 z)), weak-then f g h (a .4) (k .4))
 
-pub alt-found : (q : Prog) (g : Env) (w : Access) (ls : List Loan) (d : Data) (as₁ : Alts) (k : Lexeme) (a : me.Found) (g2 : Env) → Distinct g → alts q g w ls d as₁ ≡ some g2 → me.find-alt as₁ k ≡ some a → Alt-found q g w ls d k (a .names) (a .does) g2
+pub alt-found : (q : Prog) (g : Env) (w : Access) (ls : List Loan) (d : Data) (as₁ : Alts) (k : Lexeme) (a : me.Found) (g2 : Env) → Distinct g
+    → alts q g w ls d as₁ ≡ some g2 → me.find-alt as₁ k ≡ some a → Alt-found q g w ls d k (a .names) (a .does) g2
 alt-found q g w ls d no-alts k a g2 u e f = absurd (no-some f)
 alt-found q g w ls d (alt k1 xs ss as₁) k a g2 u e f = go (same k1 k) (same-is k1 k) f (λ l el fl. alt-found q g w ls d as₁ k a l u el fl)
   where
-    y : (kk : Ctor) × (i : Env) × (j : Env) × (l : Env) × (ctor-named (d .ctors) k1 ≡ some kk) × (bind-all w ls g xs (kk .fields) ≡ some i) × (stmts q i ss ≡ some j) × (alts q g w ls d as₁ ≡ some l) × (choose (is-no-alts as₁) (outer g j) (both (outer g j) l) ≡ g2)
+    y : (kk : Ctor) × (i : Env) × (j : Env) × (l : Env) × (ctor-named (d .ctors) k1 ≡ some kk) × (bind-all w ls g xs (kk .fields) ≡ some i)
+        × (stmts q i ss ≡ some j) × (alts q g w ls d as₁ ≡ some l) × (choose (is-no-alts as₁) (outer g j) (both (outer g j) l) ≡ g2)
     y = alt-is q g w ls d k1 xs ss as₁ g2 e
 
     bg : (K : Env) × (y .1 ≡ K ++ g) × Distinct (y .1)
@@ -158,11 +199,16 @@ alt-found q g w ls d (alt k1 xs ss as₁) k a g2 u e f = go (same k1 k) (same-is
     lk : Env-like g (y .3)
     lk = alts-like q g w ls d as₁ (y .3) u (y .7)
 
-    right : (zs : Alts) → (o : Option me.Found) → me.find-alt zs k ≡ o → o ≡ some a → Weaker (y .3) (choose (is-no-alts zs) (outer g (y .2)) (both (outer g (y .2)) (y .3)))
+    right : (zs : Alts) → (o : Option me.Found) → me.find-alt zs k ≡ o → o ≡ some a
+        → Weaker (y .3) (choose (is-no-alts zs) (outer g (y .2)) (both (outer g (y .2)) (y .3)))
     right no-alts o fo e1 = absurd (no-some (fo ∙ e1))
-    right (alt k2 xs2 ss2 zs) o fo e1 = both-right (outer g (y .2)) (y .3) (like-then (outer g (y .2)) g (y .3) (like-sym g (outer g (y .2)) (outer-like g (y .2) gr)) lk) (like-distinct g (y .3) lk u)
+    right (alt k2 xs2 ss2 zs) o fo e1 =
+        both-right (outer g (y .2)) (y .3) (like-then (outer g (y .2)) g (y .3) (like-sym g (outer g (y .2)) (outer-like g (y .2) gr)) lk)
+        (like-distinct g (y .3) lk u)
 
-    go : (z : Bool) → (z ≡ true → k1 ≡ k) → choose z (some (record { names = xs; does = ss })) (me.find-alt as₁ k) ≡ some a → ((l : Env) → alts q g w ls d as₁ ≡ some l → me.find-alt as₁ k ≡ some a → Alt-found q g w ls d k (a .names) (a .does) l) → Alt-found q g w ls d k (a .names) (a .does) g2
+    go : (z : Bool) → (z ≡ true → k1 ≡ k) → choose z (some (record { names = xs; does = ss })) (me.find-alt as₁ k) ≡ some a
+        → ((l : Env) → alts q g w ls d as₁ ≡ some l → me.find-alt as₁ k ≡ some a → Alt-found q g w ls d k (a .names) (a .does) l)
+        → Alt-found q g w ls d k (a .names) (a .does) g2
     go true s e1 r = subst (λ z. Alt-found q g w ls d k (z .names) (z .does) g2) (some-is e1) (record {
       ctor1 = y .0;
       inner = y .1;

@@ -40,17 +40,32 @@ suffix-is (x ∷ K) g (y ∷ K2) g2 e l = let t : K ++ g ≡ K2 ++ g2 = cc in su
 pub block-suc : (q : Prog) (m : Limits) (u : ℕ) → ch.accepts q ≡ true → Preserved q m u → Block-ok q m (suc u)
 unfolding me.eval
 block-suc q m u o hyp C ln gk gh g2 k h F T s x e le sc w =
-    safe-then (After-exec q C ln g2 (k ++ h) (s .under)) Post (execs u m q (k ++ h) x s) (λ i t. me.then (ends u m q (newer i h) t) (λ j z. me.ok h z))
+    safe-then (After-exec q C ln g2 (k ++ h) (s .under)) Post (execs u m q (k ++ h) x s)
+    (λ i t. me.then (ends u m q (newer i h) t) (λ j z. me.ok h z))
     (hyp .execs-ok C ln (gk ++ gh) g2 (k ++ h) F T s x e sc w) behind
   where
     Post : me.Env → State → Type 0
     Post d2 t = (d2 ≡ h) × After-exec q C ln (outer gh g2) h (s .under) d2 t
 
-    behind : (i : me.Env) (t : State) → After-exec q C ln g2 (k ++ h) (s .under) i t → Safe Post (me.then (ends u m q (newer i h) t) (λ j z. me.ok h z))
+    behind : (i : me.Env) (t : State) → After-exec q C ln g2 (k ++ h) (s .under) i t
+        → Safe Post (me.then (ends u m q (newer i h) t) (λ j z. me.ok h z))
     behind i t a = subst (λ z. Safe Post (me.then (ends u m q z t) (λ j y. me.ok h y))) (sym new-is)
         (safe-then (λ j z. After-end q (pa .F2 ++ C) (t .under) z) Post (ends u m q (a .newer ++ k) t) (λ j z. me.ok h z)
-        (hyp .ends-ok (pa .F1) (pa .F2 ++ C) (a .T) t (a .newer ++ k) (pa .named) (subst (λ z. Invariant (q .datas) z (a .T) t) (ap (λ z. z ++ C) (pa .F-is) ∙ append-assoc (pa .F1) (pa .F2) C) (a .world)))
-        (λ j z b. (refl, record { newer = []; grown = refl; F = pa .F2; T = b .T; names = subst (λ y. Scope (length C) ln y h (pa .F2)) (low ∙ sym (op .4)) (pa .names); world = b .world; under = b .under ∙ a .under })))
+        (hyp .ends-ok (pa .F1) (pa .F2 ++ C) (a .T) t (a .newer ++ k) (pa .named)
+        (subst (λ z. Invariant (q .datas) z (a .T) t) (ap (λ z. z ++ C) (pa .F-is) ∙ append-assoc (pa .F1) (pa .F2) C) (a .world)))
+        (λ j z b. (
+          refl,
+          record {
+            newer = [];
+            grown = refl;
+            F = pa .F2;
+            T = b .T;
+            names = subst (λ y. Scope (length C) ln y h (pa .F2))
+                (low ∙ sym (op .4)) (pa .names);
+            world = b .world;
+            under = b .under ∙ a .under;
+          },
+        )))
       where
         i-is : i ≡ (a .newer ++ k) ++ h
         i-is = a .grown ∙ sym (append-assoc (a .newer) k h)
@@ -66,16 +81,29 @@ block-suc q m u o hyp C ln gk gh g2 k h F T s x e le sc w =
 
         low : pa .g2 ≡ op .1
         low = suffix-is (pa .g1) (pa .g2) (op .0) (op .1) (sym (pa .g-is) ∙ op .2)
-            (let l1 = scope-names (length C) ln (pa .g2) h (pa .F2) (pa .names) in let l2 = like-length gh (op .1) (op .3) in let l3 = scope-names (length C) ln (gk ++ gh) (k ++ h) F (sc .names) in let l4 = length-append gk gh in let l5 = length-append k h in omega arith)
+            (let l1 = scope-names (length C) ln (pa .g2) h (pa .F2) (pa .names) in let l2 = like-length gh (op .1) (op .3) in let l3 = scope-names
+            (length C) ln (gk ++ gh) (k ++ h) F (sc .names) in let l4 = length-append gk gh in let l5 = length-append k h in omega arith)
 
 pub execs-suc : (q : Prog) (m : Limits) (u : ℕ) → ch.accepts q ≡ true → Preserved q m u → Execs-ok q m (suc u)
 unfolding me.eval
-execs-suc q m u o h C ln g g2 d F T s nil-s e sc w = record { newer = []; grown = refl; F = F; T = T; names = subst (λ z. Scope (length C) ln z d F) (some-is e) (sc .names); world = w; under = refl }
+execs-suc q m u o h C ln g g2 d F T s nil-s e sc w =
+    record { newer = []; grown = refl; F = F; T = T; names = subst (λ z. Scope (length C) ln z d F) (some-is e) (sc .names); world = w; under = refl }
 execs-suc q m u o h C ln g g2 d F T s (cons-s x ss) e sc w =
     let st = if-some-is (ch.stmt q g x) (λ k. ch.stmts q k ss) g2 e in
     let s1 : State = record { roots = s .roots; classes = s .classes; under = s .under; turns = suc (s .turns); ins = s .ins; outs = s .outs } in
-    safe-then (After-exec q C ln (st .0) d (s .under)) (After-exec q C ln g2 d (s .under)) (me.turn m s (λ t. exec u m q d x t)) (λ k t. execs u m q k ss t)
-    (safe-turn (After-exec q C ln (st .0) d (s .under)) m s (λ t. exec u m q d x t) (h .exec-ok C ln g (st .0) d F T s1 x (st .1) sc (invariant-same (q .datas) (F ++ C) T s s1 refl refl w)))
+    safe-then (After-exec q C ln (st .0) d (s .under)) (After-exec q C ln g2 d (s .under)) (me.turn m s (λ t. exec u m q d x t))
+    (λ k t. execs u m q k ss t)
+    (safe-turn (After-exec q C ln (st .0) d (s .under)) m s (λ t. exec u m q d x t)
+    (h .exec-ok C ln g (st .0) d F T s1 x (st .1) sc (invariant-same (q .datas) (F ++ C) T s s1 refl refl w)))
     (λ d2 t a. safe-weaken (After-exec q C ln g2 d2 (t .under)) (After-exec q C ln g2 d (s .under)) (execs u m q d2 ss t)
-    (λ d3 y b. record { newer = b .newer ++ a .newer; grown = b .grown ∙ ap (λ z. b .newer ++ z) (a .grown) ∙ sym (append-assoc (b .newer) (a .newer) d); F = b .F; T = b .T; names = b .names; world = b .world; under = b .under ∙ a .under })
+    (λ d3 y b. record {
+      newer = b .newer ++ a .newer;
+      grown = b .grown ∙ ap (λ z. b .newer ++ z) (a .grown) ∙ sym
+          (append-assoc (b .newer) (a .newer) d);
+      F = b .F;
+      T = b .T;
+      names = b .names;
+      world = b .world;
+      under = b .under ∙ a .under;
+    })
     (h .execs-ok C ln (st .0) g2 d2 (a .F) (a .T) t ss (st .2) (record { names = a .names; above = λ l i. absurd i; under = sc .under }) (a .world)))

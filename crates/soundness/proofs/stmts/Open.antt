@@ -32,7 +32,9 @@ use Rattle.soundness.proofs.Safety.{safe-need}
 use Rattle.soundness.proofs.stmts.Stores.{typed-there}
 
 -- a box in flight, under the box that's to end: what's in it, in flight
-open-shell : (ds : List Data) (e : Entry) (N : List Entry) (r w : ℕ) (x : Tree) (t : Ty) (T : List Tree) (s : State) (v : Value) → e .at ≡ in-flight v → 1 ≤ w → Stored (s .roots) (box-t r w x) → Typed ds x t → Invariant ds (e ∷ N) (box-t r w x ∷ T) s → Invariant ds (shell r w ∷ (owned-entry x t ∷ N)) (hole-t ∷ (x ∷ T)) s
+open-shell : (ds : List Data) (e : Entry) (N : List Entry) (r w : ℕ) (x : Tree) (t : Ty) (T : List Tree) (s : State) (v : Value) → e .at ≡ in-flight v
+    → 1 ≤ w → Stored (s .roots) (box-t r w x) → Typed ds x t → Invariant ds (e ∷ N) (box-t r w x ∷ T) s
+    → Invariant ds (shell r w ∷ (owned-entry x t ∷ N)) (hole-t ∷ (x ∷ T)) s
 open-shell ds e N r w x t T s v at-is le st ty wo = record {
   borrows = push-inert (own t ∷ kinds N) (push-own (kinds N) (pop-borrows (e .kind) (kinds N) (wo .borrows)) t);
   fine = ((refl, (flat x, st .0, idle w le)), ((refl, st .1, typed-owned ds x t ty, inl ty), wo .fine .1));
@@ -52,7 +54,9 @@ put-length (x ∷ xs) (suc i) v = ap suc (put-length xs i v)
 ended-length : (s : State) (r : ℕ) → length (ends-box s r .roots) ≡ length (s .roots)
 ended-length s r = go (at-place (s .roots) r)
   where
-    go : (o : Option Root) → length (from-option o s (λ x. me.with-classes (from-option o s (λ y. with-roots s (set-at (s .roots) r (record { live = false; val = hole; words = y .words })))) (me.count-out (s .classes) (x .words))) .roots) ≡ length (s .roots)
+    go : (o : Option Root) → length (from-option o s
+        (λ x. me.with-classes (from-option o s (λ y. with-roots s (set-at (s .roots) r (record { live = false; val = hole; words = y .words }))))
+        (me.count-out (s .classes) (x .words))) .roots) ≡ length (s .roots)
     go none = refl
     go (some x) = put-length (s .roots) r (record { live = false; val = hole; words = x .words })
 
@@ -64,7 +68,9 @@ root-read s r v e = go (at-place (s .roots) r) e
     go (some x) e1 = (x, refl)
 
 -- what's in a box reads the same before its name's root was emptied
-box-reads : (ds : List Data) (s s2 : State) (r i w : ℕ) (v : Value) (x : Tree) (t : Ty) → read-at s (here r) ≡ some v → write-at s (here r) hole ≡ some s2 → Typed ds x t → at-place (s2 .roots) i ≡ some (record { live = true; val = flat x; words = w }) → read-at s (here i) ≡ some (flat x)
+box-reads : (ds : List Data) (s s2 : State) (r i w : ℕ) (v : Value) (x : Tree) (t : Ty) → read-at s (here r) ≡ some v
+    → write-at s (here r) hole ≡ some s2 → Typed ds x t → at-place (s2 .roots) i ≡ some (record { live = true; val = flat x; words = w })
+    → read-at s (here i) ≡ some (flat x)
 box-reads ds s s2 r i w v x t rd wr ty at2 = reads s i (flat x) w (sym (wo .written .others i apart) ∙ at3)
   where
     wo : Wrote s (here r) hole
@@ -81,7 +87,8 @@ box-reads ds s s2 r i w v x t rd wr ty at2 = reads s i (flat x) w (sym (wo .writ
 
     apart : r ≡ i → ⊥
     apart e =
-        let a : record { live = true; val = hole; words = rr .0 .words } ≡ record { live = true; val = flat x; words = w } = some-is (sym (wo .written .now-there (rr .0) (rr .1)) ∙ ap (at-place (wo .s2 .roots)) e ∙ at3) in
+        let a : record { live = true; val = hole; words = rr .0 .words } ≡ record { live = true; val = flat x; words = w } = some-is
+        (sym (wo .written .now-there (rr .0) (rr .1)) ∙ ap (at-place (wo .s2 .roots)) e ∙ at3) in
         let h : hole ≡ flat x = ap (λ (z : Root). z .val) a in
         no-some (ap me.there h ∙ typed-there ds x t ty)
 
@@ -106,13 +113,16 @@ is-box1 ds (box-t r w y) u ty = (r, w, y, refl, subst (λ z. 1 ≤ z) (sym (ty .
 is-box1 ds hole-t u ty = absurd ty
 
 -- let x = open y
-pub open-step : (q : Prog) (m : Limits) (u : ℕ) (C : List Entry) (ln : List Level-loan) (g g2 : ch.Env) (d : me.Env) (F : List Entry) (T : List Tree) (s : State) (x y : Lexeme) → ch.stmt q g (open-s x y) ≡ some g2 → Frame C ln [] g d [] F → Invariant (q .datas) (F ++ C) T s → Safe (After-exec q C ln g2 d (s .under)) (exec (suc u) m q d (open-s x y) s)
+pub open-step : (q : Prog) (m : Limits) (u : ℕ) (C : List Entry) (ln : List Level-loan) (g g2 : ch.Env) (d : me.Env) (F : List Entry) (T : List Tree)
+    (s : State) (x y : Lexeme) → ch.stmt q g (open-s x y) ≡ some g2 → Frame C ln [] g d [] F → Invariant (q .datas) (F ++ C) T s
+    → Safe (After-exec q C ln g2 d (s .under)) (exec (suc u) m q d (open-s x y) s)
 unfolding me.eval
 open-step q m u C ln g g2 d F T s x y e sc w =
     safe-need P s (root-of d y) f1 (sw .root) (sw .named)
     (safe-need P s (read-at s (here (sw .root))) (f2 (sw .root)) (flat (sw .old)) (sw .reads-old)
     (safe-need P s (box-of (flat (sw .old))) (f3 (sw .root)) i (ap (λ z. box-of (flat z)) (bo .3))
-    (safe-need P s (read-at s (here i)) (f4 (sw .root) i) (flat cont) (box-reads (q .datas) s s2 (sw .root) i wd (flat (sw .old)) cont tb (sw .reads-old) (sw .writes-new) (bo .5) (st .0))
+    (safe-need P s (read-at s (here i)) (f4 (sw .root) i) (flat cont)
+    (box-reads (q .datas) s s2 (sw .root) i wd (flat (sw .old)) cont tb (sw .reads-old) (sw .writes-new) (bo .5) (st .0))
     (safe-need P s (write-at s (here (sw .root)) hole) (f5 i (flat cont)) s2 (sw .writes-new) after))))
   where
     P : me.Env → State → Type 0
@@ -133,8 +143,11 @@ open-step q m u C ln g g2 d F T s x y e sc w =
     f1 : ℕ → Res me.Env
     f1 r = me.need s (read-at s (here r)) (f2 r)
 
-    a1 : (v : Var) × (ch.there g y ≡ some v) × (if-some (boxed-in (v .ty)) (λ t. only-if (fresh g x && is-free (all-loans g) y) (some (enter (set-gone true g y) x t []))) ≡ some g2)
-    a1 = if-some-is (ch.there g y) (λ v. if-some (boxed-in (v .ty)) (λ t. only-if (fresh g x && is-free (all-loans g) y) (some (enter (set-gone true g y) x t [])))) g2 e
+    a1 : (v : Var) × (ch.there g y ≡ some v)
+        × (if-some (boxed-in (v .ty)) (λ t. only-if (fresh g x && is-free (all-loans g) y) (some (enter (set-gone true g y) x t []))) ≡ some g2)
+    a1 =
+        if-some-is (ch.there g y) (λ v. if-some (boxed-in (v .ty))
+        (λ t. only-if (fresh g x && is-free (all-loans g) y) (some (enter (set-gone true g y) x t [])))) g2 e
 
     v : Var
     v = a1 .0
@@ -155,7 +168,9 @@ open-step q m u C ln g g2 d F T s x y e sc w =
     ty-is = boxed-is (v .ty) tb (a2 .1)
 
     ow : owned tb ≡ true
-    ow = let en = name-entry C ln g d F y v (sc .names) (th .0) in fits-owned tb (en .en .kind) (subst (λ z. Kind-fits z (en .en .kind)) ty-is (en .type))
+    ow =
+        let en = name-entry C ln g d F y v (sc .names) (th .0) in
+        fits-owned tb (en .en .kind) (subst (λ z. Kind-fits z (en .en .kind)) ty-is (en .type))
 
     sw : Swapped (q .datas) C ln g d [] y v true hole-t s
     sw = move-name (q .datas) C ln [] g d [] F y v T s sc (th .0) (ap owned ty-is ∙ ow) (and-right (fresh g x) (is-free (all-loans g) y) (a3 .0)) w
@@ -186,7 +201,10 @@ open-step q m u C ln g g2 d F T s x y e sc w =
     w1 = subst (λ z. Invariant (q .datas) (removed-entry (sw .old) (v .gone) (v .ty) ∷ (sw .F ++ C)) (z ∷ sw .T) s2) (bo .3) (sw .world)
 
     w2 : (U : List Tree) × Invariant (q .datas) (owned-entry cont tb ∷ (sw .F ++ C)) U (ends-box s2 i)
-    w2 = end-box-top (q .datas) (owned-entry cont tb ∷ (sw .F ++ C)) i wd (hole-t ∷ (cont ∷ sw .T)) s2 (bo .4) (open-shell (q .datas) (removed-entry (sw .old) (v .gone) (v .ty)) (sw .F ++ C) i wd cont tb (sw .T) s2 (flat (sw .old)) refl (bo .4) st (bo .5) w1)
+    w2 =
+        end-box-top (q .datas) (owned-entry cont tb ∷ (sw .F ++ C)) i wd (hole-t ∷ (cont ∷ sw .T)) s2 (bo .4)
+        (open-shell (q .datas) (removed-entry (sw .old) (v .gone) (v .ty)) (sw .F ++ C) i wd cont tb (sw .T) s2 (flat (sw .old)) refl
+        (bo .4) st (bo .5) w1)
 
     s3 : State
     s3 = ends-box s2 i
@@ -197,8 +215,20 @@ open-step q m u C ln g g2 d F T s x y e sc w =
       grown = refl;
       F = with-root (owned-entry cont tb) (length (s3 .roots)) ∷ sw .F;
       T = w2 .0;
-      names = subst (λ z. Scope (length C) ln z (record { name = x; root = length (s2 .roots) } ∷ d) (with-root (owned-entry cont tb) (length (s3 .roots)) ∷ sw .F)) (some-is (a3 .1))
-          (record { name = refl; place = ap (λ z. rooted z 0) (ended-length s2 i); flag = refl; type = (refl, ow); loans = λ l k. absurd k; fresh = fresh-like g (set-gone true g y) x (like-gone true g y) (fresh-none g x (and-left (fresh g x) (is-free (all-loans g) y) (a3 .0))) }, sw .names);
+      names =
+          subst (λ z. Scope (length C) ln z (record { name = x; root = length (s2 .roots) } ∷ d)
+          (with-root (owned-entry cont tb) (length (s3 .roots)) ∷ sw .F)) (some-is (a3 .1)) (
+            record {
+              name = refl;
+              place = ap (λ z. rooted z 0) (ended-length s2 i);
+              flag = refl;
+              type = (refl, ow);
+              loans = λ l k. absurd k;
+              fresh = fresh-like g (set-gone true g y) x (like-gone true g y)
+                  (fresh-none g x (and-left (fresh g x) (is-free (all-loans g) y) (a3 .0)));
+            },
+            sw .names,
+          );
       world = root-mid (q .datas) [] (owned-entry cont tb) (flat cont) (sw .F ++ C) (w2 .0) s3 refl (w2 .1);
       under = ended-under s2 i ∙ sw .under;
     }

@@ -29,55 +29,96 @@ use Rattle.soundness.proofs.statics.Stmts.{stmts-grows}
 use Rattle.soundness.proofs.Safety.{safe-then, safe-need, safe-turn, safe-choose, safe-weaken, after-weak}
 
 -- let x = e
-pub bind-step : (q : Prog) (m : Limits) (u : ℕ) → Preserved q m u → (C : List Entry) (ln : List Level-loan) (g g2 : ch.Env) (d : me.Env) (F : List Entry) (T : List Tree) (s : State) (x : Lexeme) (e1 : Expr) → ch.stmt q g (bind x e1) ≡ some g2 → Frame C ln [] g d [] F → Invariant (q .datas) (F ++ C) T s → Safe (After-exec q C ln g2 d (s .under)) (exec (suc u) m q d (bind x e1) s)
+pub bind-step : (q : Prog) (m : Limits) (u : ℕ) → Preserved q m u
+    → (C : List Entry) (ln : List Level-loan) (g g2 : ch.Env) (d : me.Env) (F : List Entry) (T : List Tree) (s : State) (x : Lexeme) (e1 : Expr)
+    → ch.stmt q g (bind x e1) ≡ some g2 → Frame C ln [] g d [] F → Invariant (q .datas) (F ++ C) T s
+    → Safe (After-exec q C ln g2 d (s .under)) (exec (suc u) m q d (bind x e1) s)
 unfolding me.eval
 bind-step q m u h C ln g g2 d F T s x e1 e sc w =
     let y = if-some-is (ch.expr q [] g e1) (λ r. only-if (fresh (r .env) x) (some (enter (r .env) x (r .ty) (r .loans)))) g2 e in
     let r = y .0 in
     let z = only-is (fresh (r .env) x) (some (enter (r .env) x (r .ty) (r .loans))) g2 (y .2) in
-    safe-then (After-eval q C ln d [] r (s .under)) (After-exec q C ln g2 d (s .under)) (eval u m q d e1 s) (λ v t. me.ok (record { name = x; root = length (t .roots) } ∷ d) (adds-root t v 0))
+    safe-then (After-eval q C ln d [] r (s .under)) (After-exec q C ln g2 d (s .under)) (eval u m q d e1 s)
+    (λ v t. me.ok (record { name = x; root = length (t .roots) } ∷ d) (adds-root t v 0))
     (h .eval-ok C ln [] g d [] F T s e1 r (y .1) sc w)
     (λ v t a. record {
       newer = record { name = x; root = length (t .roots) } ∷ [];
       grown = refl;
       F = with-root (a .top) (length (t .roots)) ∷ a .F;
       T = a .T;
-      names = subst (λ k. Scope (length C) ln k (record { name = x; root = length (t .roots) } ∷ d) (with-root (a .top) (length (t .roots)) ∷ a .F)) (some-is (z .1))
-          (record { name = refl; place = refl; flag = a .flight .flag; type = a .flight .type; loans = a .covered; fresh = fresh-none (r .env) x (z .0) }, a .names);
+      names =
+          subst (λ k. Scope (length C) ln k (record { name = x; root = length (t .roots) } ∷ d) (with-root (a .top) (length (t .roots)) ∷ a .F))
+          (some-is (z .1)) (
+            record {
+              name = refl;
+              place = refl;
+              flag = a .flight .flag;
+              type = a .flight .type;
+              loans = a .covered;
+              fresh = fresh-none (r .env) x
+                  (z .0);
+            },
+            a .names,
+          );
       world = root-mid (q .datas) [] (a .top) v (a .F ++ C) (a .T) t (a .flight .place) (a .world);
       under = a .under;
     })
 
 -- an int is computed, then what's to be done with it
-pub int-then : (q : Prog) (m : Limits) (u : ℕ) → Preserved q m u → {A : Type 0} (Q : A → State → Type 0) (f : State → ℕ → Res A) (C : List Entry) (ln : List Level-loan) (g : ch.Env) (d : me.Env) (F : List Entry) (T : List Tree) (s : State) (e1 : Expr) (r : ch.Typed) → ch.expr q [] g e1 ≡ some r → same-ty (r .ty) int ≡ true → Frame C ln [] g d [] F → Invariant (q .datas) (F ++ C) T s
-    → ((k : ℕ) (F2 : List Entry) (T2 : List Tree) (t : State) → t .under ≡ s .under → Frame C ln [] (r .env) d [] F2 → Invariant (q .datas) (F2 ++ C) T2 t → Safe Q (f t k)) → Safe Q (me.then (eval u m q d e1 s) (λ v t. me.need t (num-of v) (f t)))
+pub int-then : (q : Prog) (m : Limits) (u : ℕ) → Preserved q m u
+    → {A : Type 0} (Q : A → State → Type 0) (f : State → ℕ → Res A) (C : List Entry) (ln : List Level-loan) (g : ch.Env) (d : me.Env) (F : List Entry)
+    (T : List Tree) (s : State) (e1 : Expr) (r : ch.Typed) → ch.expr q [] g e1 ≡ some r → same-ty (r .ty) int ≡ true → Frame C ln [] g d [] F
+    → Invariant (q .datas) (F ++ C) T s
+    → ((k : ℕ) (F2 : List Entry) (T2 : List Tree) (t : State) → t .under ≡ s .under → Frame C ln [] (r .env) d [] F2
+    → Invariant (q .datas) (F2 ++ C) T2 t → Safe Q (f t k)) → Safe Q (me.then (eval u m q d e1 s) (λ v t. me.need t (num-of v) (f t)))
 int-then q m u h {A} Q f C ln g d F T s e1 r e ty sc w go =
-    safe-then (After-eval q C ln d [] r (s .under)) Q (eval u m q d e1 s) (λ v t. me.need t (num-of v) (f t)) (h .eval-ok C ln [] g d [] F T s e1 r e sc w)
+    safe-then (After-eval q C ln d [] r (s .under)) Q (eval u m q d e1 s) (λ v t. me.need t (num-of v) (f t))
+    (h .eval-ok C ln [] g d [] F T s e1 r e sc w)
     (λ v t a. (let fl : Value-entry v int (a .top) = subst (λ z. Value-entry v z (a .top)) (same-ty-is (r .ty) int ty) (a .flight) in
     let nm = top-int (q .datas) (a .top) (a .F ++ C) (a .T) t v fl (a .world) in
     let po = pop-int (q .datas) (a .top) (a .F ++ C) (a .T) t v fl (a .world) in
-    safe-need Q t (num-of v) (f t) (nm .0) (nm .2) (go (nm .0) (a .F) (po .0) t (a .under) (record { names = a .names; above = λ l i. absurd i; under = sc .under }) (po .1))))
+    safe-need Q t (num-of v) (f t) (nm .0) (nm .2)
+    (go (nm .0) (a .F) (po .0) t (a .under) (record { names = a .names; above = λ l i. absurd i; under = sc .under }) (po .1))))
 
 -- print e
-pub show-step : (q : Prog) (m : Limits) (u : ℕ) → Preserved q m u → (C : List Entry) (ln : List Level-loan) (g g2 : ch.Env) (d : me.Env) (F : List Entry) (T : List Tree) (s : State) (e1 : Expr) → ch.stmt q g (put-s e1) ≡ some g2 → Frame C ln [] g d [] F → Invariant (q .datas) (F ++ C) T s → Safe (After-exec q C ln g2 d (s .under)) (exec (suc u) m q d (put-s e1) s)
+pub show-step : (q : Prog) (m : Limits) (u : ℕ) → Preserved q m u
+    → (C : List Entry) (ln : List Level-loan) (g g2 : ch.Env) (d : me.Env) (F : List Entry) (T : List Tree) (s : State) (e1 : Expr)
+    → ch.stmt q g (put-s e1) ≡ some g2 → Frame C ln [] g d [] F → Invariant (q .datas) (F ++ C) T s
+    → Safe (After-exec q C ln g2 d (s .under)) (exec (suc u) m q d (put-s e1) s)
 unfolding me.eval
 show-step q m u h C ln g g2 d F T s e1 e sc w =
     let y = as-int-is (ch.expr q [] g e1) (λ k. some k) g2 e in
     int-then q m u h (After-exec q C ln g2 d (s .under)) (λ t k. me.ok d (shows t k)) C ln g d F T s e1 (y .0) (y .1) (y .2) sc w
-    (λ k F2 T2 t un sc2 w2. record { newer = []; grown = refl; F = F2; T = T2; names = subst (λ z. Scope (length C) ln z d F2) (some-is (y .3)) (sc2 .names); world = invariant-same (q .datas) (F2 ++ C) T2 t (shows t k) refl refl w2; under = un })
+    (λ k F2 T2 t un sc2 w2. record {
+      newer = [];
+      grown = refl;
+      F = F2;
+      T = T2;
+      names = subst (λ z. Scope (length C) ln z d F2) (some-is (y .3))
+          (sc2 .names);
+      world = invariant-same (q .datas) (F2 ++ C) T2 t (shows t k) refl refl w2;
+      under = un;
+    })
 
 -- a block of the frame's own names
-own-block : (q : Prog) (m : Limits) (u : ℕ) → Preserved q m u → (C : List Entry) (ln : List Level-loan) (g i g2 : ch.Env) (d : me.Env) (F : List Entry) (T : List Tree) (s : State) (x : Stmts) (k : ℕ) → ch.stmts q g x ≡ some i → Weaker (outer g i) g2 → s .under ≡ k → Frame C ln [] g d [] F → Invariant (q .datas) (F ++ C) T s → Safe (After-exec q C ln g2 d k) (block u m q d d x s)
+own-block : (q : Prog) (m : Limits) (u : ℕ) → Preserved q m u
+    → (C : List Entry) (ln : List Level-loan) (g i g2 : ch.Env) (d : me.Env) (F : List Entry) (T : List Tree) (s : State) (x : Stmts) (k : ℕ)
+    → ch.stmts q g x ≡ some i → Weaker (outer g i) g2 → s .under ≡ k → Frame C ln [] g d [] F → Invariant (q .datas) (F ++ C) T s
+    → Safe (After-exec q C ln g2 d k) (block u m q d d x s)
 own-block q m u h C ln g i g2 d F T s x k e wk un sc w =
     safe-weaken (λ d2 t. (d2 ≡ d) × After-exec q C ln (outer g i) d (s .under) d2 t) (After-exec q C ln g2 d k) (block u m q d d x s)
     (λ d2 t a. subst (λ z. After-exec q C ln g2 d z d2 t) un (after-weak q C ln (outer g i) g2 d (s .under) d2 t wk (a .1)))
     (h .block-ok C ln [] g i [] d F T s x e refl sc w)
 
 -- if e
-pub cond-step : (q : Prog) (m : Limits) (u : ℕ) → Preserved q m u → (C : List Entry) (ln : List Level-loan) (g g2 : ch.Env) (d : me.Env) (F : List Entry) (T : List Tree) (s : State) (e1 : Expr) (f1 f2 : Stmts) → ch.stmt q g (cond e1 f1 f2) ≡ some g2 → Frame C ln [] g d [] F → Invariant (q .datas) (F ++ C) T s → Safe (After-exec q C ln g2 d (s .under)) (exec (suc u) m q d (cond e1 f1 f2) s)
+pub cond-step : (q : Prog) (m : Limits) (u : ℕ) → Preserved q m u
+    → (C : List Entry) (ln : List Level-loan) (g g2 : ch.Env) (d : me.Env) (F : List Entry) (T : List Tree) (s : State) (e1 : Expr) (f1 f2 : Stmts)
+    → ch.stmt q g (cond e1 f1 f2) ≡ some g2 → Frame C ln [] g d [] F → Invariant (q .datas) (F ++ C) T s
+    → Safe (After-exec q C ln g2 d (s .under)) (exec (suc u) m q d (cond e1 f1 f2) s)
 unfolding me.eval
 cond-step q m u h C ln g g2 d F T s e1 f1 f2 e sc w =
-    let y = as-int-is (ch.expr q [] g e1) (λ k. if-some (ch.stmts q k f1) (λ i. if-some (ch.stmts q k f2) (λ j. some (both (outer k i) (outer k j))))) g2 e in
+    let y = as-int-is (ch.expr q [] g e1) (λ k. if-some (ch.stmts q k f1)
+    (λ i. if-some (ch.stmts q k f2) (λ j. some (both (outer k i) (outer k j))))) g2 e in
     let gr = y .0 .env in
     let y2 = if-some-is (ch.stmts q gr f1) (λ i. if-some (ch.stmts q gr f2) (λ j. some (both (outer gr i) (outer gr j)))) g2 (y .3) in
     let y3 = if-some-is (ch.stmts q gr f2) (λ j. some (both (outer gr (y2 .0)) (outer gr j))) g2 (y2 .2) in
@@ -87,12 +128,20 @@ cond-step q m u h C ln g g2 d F T s e1 f1 f2 e sc w =
     let l1 = outer-like gr (y2 .0) (stmts-grows q gr f1 (y2 .0) di (y2 .1)) in
     let l2 = outer-like gr (y3 .0) (stmts-grows q gr f2 (y3 .0) di (y3 .1)) in
     elim (eqb k 0) as (λ z. Safe P (block u m q d d (choose z f2 f1) t)) [
-      | true ↦ own-block q m u h C ln gr (y3 .0) g2 d F2 T2 t f2 (s .under) (y3 .1) (subst (Weaker (outer gr (y3 .0))) (some-is (y3 .2)) (both-right (outer gr (y2 .0)) (outer gr (y3 .0)) (like-then (outer gr (y2 .0)) gr (outer gr (y3 .0)) (like-sym gr (outer gr (y2 .0)) l1) l2) (like-distinct gr (outer gr (y3 .0)) l2 di))) un sc2 w2
-      | false ↦ own-block q m u h C ln gr (y2 .0) g2 d F2 T2 t f1 (s .under) (y2 .1) (subst (Weaker (outer gr (y2 .0))) (some-is (y3 .2)) (both-left (outer gr (y2 .0)) (outer gr (y3 .0)))) un sc2 w2
+      | true ↦ own-block q m u h C ln gr (y3 .0) g2 d F2 T2 t f2 (s .under) (y3 .1)
+          (subst (Weaker (outer gr (y3 .0))) (some-is (y3 .2))
+          (both-right (outer gr (y2 .0)) (outer gr (y3 .0))
+          (like-then (outer gr (y2 .0)) gr (outer gr (y3 .0)) (like-sym gr (outer gr (y2 .0)) l1) l2)
+          (like-distinct gr (outer gr (y3 .0)) l2 di))) un sc2 w2
+      | false ↦ own-block q m u h C ln gr (y2 .0) g2 d F2 T2 t f1 (s .under) (y2 .1)
+          (subst (Weaker (outer gr (y2 .0))) (some-is (y3 .2)) (both-left (outer gr (y2 .0)) (outer gr (y3 .0)))) un sc2 w2
     ]))
 
 -- while e
-pub loop-step : (q : Prog) (m : Limits) (u : ℕ) → Preserved q m u → (C : List Entry) (ln : List Level-loan) (g g2 : ch.Env) (d : me.Env) (F : List Entry) (T : List Tree) (s : State) (e1 : Expr) (f1 : Stmts) → ch.stmt q g (loop e1 f1) ≡ some g2 → Frame C ln [] g d [] F → Invariant (q .datas) (F ++ C) T s → Safe (After-exec q C ln g2 d (s .under)) (exec (suc u) m q d (loop e1 f1) s)
+pub loop-step : (q : Prog) (m : Limits) (u : ℕ) → Preserved q m u
+    → (C : List Entry) (ln : List Level-loan) (g g2 : ch.Env) (d : me.Env) (F : List Entry) (T : List Tree) (s : State) (e1 : Expr) (f1 : Stmts)
+    → ch.stmt q g (loop e1 f1) ≡ some g2 → Frame C ln [] g d [] F → Invariant (q .datas) (F ++ C) T s
+    → Safe (After-exec q C ln g2 d (s .under)) (exec (suc u) m q d (loop e1 f1) s)
 unfolding me.eval
 loop-step q m u h C ln g g2 d F T s e1 f1 e sc w =
     let y = as-int-is (ch.expr q [] g e1) (λ k. if-some (ch.stmts q k f1) (λ i. only-if (no-more-gone g (outer k i)) (some k))) g2 e in
@@ -107,11 +156,28 @@ loop-step q m u h C ln g g2 d F T s e1 f1 e sc w =
     let l1 = outer-like gr (y2 .0) (stmts-grows q gr f1 (y2 .0) di (y2 .1)) in
     let wk = not-more-gone g (outer gr (y2 .0)) (like-then g gr (outer gr (y2 .0)) lk l1) (like-distinct gr (outer gr (y2 .0)) l1 di) (z .0) in
     safe-choose P (eqb k 0) (me.ok d t) (me.then (block u m q d d f1 t) again)
-    (λ yes1. record { newer = []; grown = refl; F = F2; T = T2; names = subst (λ j. Scope (length C) ln j d F2) (some-is (z .1)) (sc2 .names); world = w2; under = un })
+    (λ yes1. record {
+      newer = [];
+      grown = refl;
+      F = F2;
+      T = T2;
+      names = subst (λ j. Scope (length C) ln j d F2) (some-is (z .1)) (sc2 .names);
+      world = w2;
+      under = un;
+    })
     (λ no1. safe-then (λ d2 t2. (d2 ≡ d) × After-exec q C ln (outer gr (y2 .0)) d (t .under) d2 t2) P (block u m q d d f1 t) again
     (h .block-ok C ln [] gr (y2 .0) [] d F2 T2 t f1 (y2 .1) refl sc2 w2)
     (λ i t2 a. (let b = after-weak q C ln (outer gr (y2 .0)) g d (t .under) i t2 wk (a .1) in
-    let t3 : State = record { roots = t2 .roots; classes = t2 .classes; under = t2 .under; turns = suc (t2 .turns); ins = t2 .ins; outs = t2 .outs } in
+    let t3 : State = record {
+      roots = t2 .roots;
+      classes = t2 .classes;
+      under = t2 .under;
+      turns = suc (t2 .turns);
+      ins = t2 .ins;
+      outs = t2 .outs;
+    } in
     safe-turn P m t2 (λ t4. exec u m q d (loop e1 f1) t4)
     (subst (λ j. Safe (After-exec q C ln g2 d j) (exec u m q d (loop e1 f1) t3)) (b .under ∙ un)
-    (h .exec-ok C ln g g2 d (b .F) (b .T) t3 (loop e1 f1) e (record { names = subst (λ j. Scope (length C) ln g j (b .F)) (a .0) (b .names); above = λ l j. absurd j; under = sc .under }) (invariant-same (q .datas) (b .F ++ C) (b .T) t2 t3 refl refl (b .world)))))))))
+    (h .exec-ok C ln g g2 d (b .F) (b .T) t3 (loop e1 f1) e
+    (record { names = subst (λ j. Scope (length C) ln g j (b .F)) (a .0) (b .names); above = λ l j. absurd j; under = sc .under })
+    (invariant-same (q .datas) (b .F ++ C) (b .T) t2 t3 refl refl (b .world)))))))))

@@ -32,33 +32,50 @@ use Rattle.soundness.proofs.frames.Moves.{split-level, Cut, split-trees, swap-
 use Rattle.soundness.proofs.Safety.{safe-then, safe-need}
 
 -- what was there is dropped; the frame stands
-drop-old : (q : Prog) (m : Limits) (u : ℕ) → Preserved q m u → (C : List Entry) (ln : List Level-loan) (g2 : ch.Env) (d : me.Env) (F : List Entry) (T : List Tree) (t : State) (k : ℕ) (e : Entry) (v : Value) → e .at ≡ in-flight v → t .under ≡ k → Scope (length C) ln g2 d F → Invariant (q .datas) (e ∷ (F ++ C)) T t → Safe (After-exec q C ln g2 d k) (me.then (drops u m q v t) (λ j y. me.ok d y))
+drop-old : (q : Prog) (m : Limits) (u : ℕ) → Preserved q m u
+    → (C : List Entry) (ln : List Level-loan) (g2 : ch.Env) (d : me.Env) (F : List Entry) (T : List Tree) (t : State) (k : ℕ) (e : Entry) (v : Value)
+    → e .at ≡ in-flight v → t .under ≡ k → Scope (length C) ln g2 d F → Invariant (q .datas) (e ∷ (F ++ C)) T t
+    → Safe (After-exec q C ln g2 d k) (me.then (drops u m q v t) (λ j y. me.ok d y))
 drop-old q m u h C ln g2 d F T t k e v e-at un mt w =
-    safe-then (λ j y. After-end q (F ++ C) (t .under) y) (After-exec q C ln g2 d k) (drops u m q v t) (λ j y. me.ok d y) (h .drops-ok e (F ++ C) T t v e-at w)
+    safe-then (λ j y. After-end q (F ++ C) (t .under) y) (After-exec q C ln g2 d k) (drops u m q v t) (λ j y. me.ok d y)
+    (h .drops-ok e (F ++ C) T t v e-at w)
     (λ j y a. record { newer = []; grown = refl; F = F; T = a .T; names = mt; world = a .world; under = a .under ∙ un })
 
 -- x = e
-pub assign-step : (q : Prog) (m : Limits) (u : ℕ) → Preserved q m u → (C : List Entry) (ln : List Level-loan) (g g2 : ch.Env) (d : me.Env) (F : List Entry) (T : List Tree) (s : State) (x : Lexeme) (e1 : Expr) → ch.stmt q g (assign x e1) ≡ some g2 → Frame C ln [] g d [] F → Invariant (q .datas) (F ++ C) T s → Safe (After-exec q C ln g2 d (s .under)) (exec (suc u) m q d (assign x e1) s)
+pub assign-step : (q : Prog) (m : Limits) (u : ℕ) → Preserved q m u
+    → (C : List Entry) (ln : List Level-loan) (g g2 : ch.Env) (d : me.Env) (F : List Entry) (T : List Tree) (s : State) (x : Lexeme) (e1 : Expr)
+    → ch.stmt q g (assign x e1) ≡ some g2 → Frame C ln [] g d [] F → Invariant (q .datas) (F ++ C) T s
+    → Safe (After-exec q C ln g2 d (s .under)) (exec (suc u) m q d (assign x e1) s)
 unfolding me.eval
 assign-step q m u h C ln g g2 d F T s x e1 e sc w =
-    let y = if-some-is (ch.expr q [] g e1) (λ r. if-some (look (r .env) x) (λ v. only-if (owned (v .ty) && (same-ty (r .ty) (v .ty) && is-free (all-loans (r .env)) x)) (some (set-gone false (r .env) x)))) g2 e in
+    let y = if-some-is (ch.expr q [] g e1) (λ r. if-some (look (r .env) x)
+    (λ v. only-if (owned (v .ty) && (same-ty (r .ty) (v .ty) && is-free (all-loans (r .env)) x)) (some (set-gone false (r .env) x)))) g2 e in
     let r = y .0 in
-    let y2 = if-some-is (look (r .env) x) (λ v. only-if (owned (v .ty) && (same-ty (r .ty) (v .ty) && is-free (all-loans (r .env)) x)) (some (set-gone false (r .env) x))) g2 (y .2) in
+    let y2 = if-some-is (look (r .env) x) (λ v. only-if (owned (v .ty) && (same-ty (r .ty) (v .ty) && is-free (all-loans (r .env)) x))
+    (some (set-gone false (r .env) x))) g2 (y .2) in
     let vx = y2 .0 in
     let z = only-is (owned (vx .ty) && (same-ty (r .ty) (vx .ty) && is-free (all-loans (r .env)) x)) (some (set-gone false (r .env) x)) g2 (y2 .2) in
     let ow = and-left (owned (vx .ty)) (same-ty (r .ty) (vx .ty) && is-free (all-loans (r .env)) x) (z .0) in
     let z2 = and-right (owned (vx .ty)) (same-ty (r .ty) (vx .ty) && is-free (all-loans (r .env)) x) (z .0) in
     let P = After-exec q C ln g2 d (s .under) in
-    let at-old : Value → State → ℕ → Value → Res me.Env = λ v t k old. me.need t (write-at t (here k) v) (λ t2. me.then (drops u m q old t2) (λ j t3. me.ok d t3)) in
-    safe-then (After-eval q C ln d [] r (s .under)) P (eval u m q d e1 s) (λ v t. me.need t (root-of d x) (λ k. me.need t (read-at t (here k)) (at-old v t k)))
+    let at-old : Value → State → ℕ → Value → Res me.Env = λ v t k old. me.need t (write-at t (here k) v)
+    (λ t2. me.then (drops u m q old t2) (λ j t3. me.ok d t3)) in
+    safe-then (After-eval q C ln d [] r (s .under)) P (eval u m q d e1 s)
+    (λ v t. me.need t (root-of d x) (λ k. me.need t (read-at t (here k)) (at-old v t k)))
     (h .eval-ok C ln [] g d [] F T s e1 r (y .1) sc w)
-    (λ v t a. (let fl : Value-entry v (vx .ty) (a .top) = subst (λ k. Value-entry v k (a .top)) (same-ty-is (r .ty) (vx .ty) (and-left (same-ty (r .ty) (vx .ty)) (is-free (all-loans (r .env)) x) z2)) (a .flight) in
+    (λ v t a. (let fl : Value-entry v (vx .ty) (a .top) = subst (λ k. Value-entry v k (a .top))
+    (same-ty-is (r .ty) (vx .ty) (and-left (same-ty (r .ty) (vx .ty)) (is-free (all-loans (r .env)) x) z2)) (a .flight) in
     let o = owned-top (q .datas) (a .top) (a .F ++ C) (a .T) t v (vx .ty) ow fl (a .world) in
-    let sw = swap-name (q .datas) C ln [] (r .env) d [] (a .F) x vx false (a .top) (o .tree) (o .rest) t (record { names = a .names; above = λ l i. absurd i; under = sc .under }) (y2 .1) ow (and-right (same-ty (r .ty) (vx .ty)) (is-free (all-loans (r .env)) x) z2) (fl .place ∙ ap in-flight (o .value)) (o .stored) (inl (o .typed)) (subst (λ k. Invariant (q .datas) (a .top ∷ (a .F ++ C)) k t) (o .trees) (a .world)) in
+    let sw = swap-name (q .datas) C ln [] (r .env) d [] (a .F) x vx false (a .top) (o .tree) (o .rest) t
+    (record { names = a .names; above = λ l i. absurd i; under = sc .under }) (y2 .1) ow
+    (and-right (same-ty (r .ty) (vx .ty)) (is-free (all-loans (r .env)) x) z2) (fl .place ∙ ap in-flight (o .value)) (o .stored) (inl (o .typed))
+    (subst (λ k. Invariant (q .datas) (a .top ∷ (a .F ++ C)) k t) (o .trees) (a .world)) in
     safe-need P t (root-of d x) (λ k. me.need t (read-at t (here k)) (at-old v t k)) (sw .root) (sw .named)
     (safe-need P t (read-at t (here (sw .root))) (at-old v t (sw .root)) (flat (sw .old)) (sw .reads-old)
-    (safe-need P t (write-at t (here (sw .root)) v) (λ t2. me.then (drops u m q (flat (sw .old)) t2) (λ j t3. me.ok d t3)) (sw .s2) (ap (write-at t (here (sw .root))) (o .value) ∙ sw .writes-new)
-    (drop-old q m u h C ln g2 d (sw .F) (sw .old ∷ sw .T) (sw .s2) (s .under) (removed-entry (sw .old) (vx .gone) (vx .ty)) (flat (sw .old)) refl (sw .under ∙ a .under) (subst (λ k. Scope (length C) ln k d (sw .F)) (some-is (z .1)) (sw .names)) (sw .world))))))
+    (safe-need P t (write-at t (here (sw .root)) v) (λ t2. me.then (drops u m q (flat (sw .old)) t2) (λ j t3. me.ok d t3)) (sw .s2)
+    (ap (write-at t (here (sw .root))) (o .value) ∙ sw .writes-new)
+    (drop-old q m u h C ln g2 d (sw .F) (sw .old ∷ sw .T) (sw .s2) (s .under) (removed-entry (sw .old) (vx .gone) (vx .ty)) (flat (sw .old)) refl
+    (sw .under ∙ a .under) (subst (λ k. Scope (length C) ln k d (sw .F)) (some-is (z .1)) (sw .names)) (sw .world))))))
 
 -- a value on top goes in where a mut points that's free
 pub record Put (ds : List Data) (N : List Entry) (y : Tree) (s : State) (u : Ty) (w : Value) : Type 0 where
@@ -78,7 +95,9 @@ subtree-hole ds [] part u e ty = subst (λ z. Typed ds z u) (sym (some-is e)) ty
 subtree-hole ds (field-step i ∷ is) part u e ty = no-some e
 subtree-hole ds (box-step ∷ is) part u e ty = no-some e
 
-put-in : (ds : List Data) (top : Entry) (N : List Entry) (y : Tree) (T : List Tree) (s : State) (u : Ty) (a : Addr) (ls : List Level-loan) (w : Value) (lx : ℕ) → top .at ≡ in-flight (flat y) → Stored (s .roots) y → Typed ds y u → owned u ≡ true → at-level (kinds N) lx ≡ some (borrow true u a ls) → (Lent (kinds N) lx false → ⊥) → Valid-ref ds N T u a w → Invariant ds (top ∷ N) (y ∷ T) s → Put ds N y s u w
+put-in : (ds : List Data) (top : Entry) (N : List Entry) (y : Tree) (T : List Tree) (s : State) (u : Ty) (a : Addr) (ls : List Level-loan) (w : Value)
+    (lx : ℕ) → top .at ≡ in-flight (flat y) → Stored (s .roots) y → Typed ds y u → owned u ≡ true → at-level (kinds N) lx ≡ some (borrow true u a ls)
+    → (Lent (kinds N) lx false → ⊥) → Valid-ref ds N T u a w → Invariant ds (top ∷ N) (y ∷ T) s → Put ds N y s u w
 put-in ds top N y T s u a ls w lx t-at st-y ty-y ow x-at free pt wo = record {
   loc = loc-down (here r) (a .path) tr;
   old = old;
@@ -89,7 +108,8 @@ put-in ds top N y T s u a ls w lx t-at st-y ty-y ow x-at free pt wo = record {
   typed = pt .typed;
   writes-new = wr .is;
   world = subst (λ z. Invariant ds (removed-entry old false u ∷ z) (old ∷ (cu .T1 ++ (replace (a .path) y tr ∷ cu .T2))) (wr .s2)) (sym (sp .2))
-      (replace-at ds top y N1 ex N2 (cu .T1) tr (cu .T2) s r tx (a .path) old (ex .gone) false u t-at st-y ex-at (eb .2) (cu .len1) (cu .len2) lead wr content (inl (pt .typed)) ow kept w2);
+      (replace-at ds top y N1 ex N2 (cu .T1) tr (cu .T2) s r tx (a .path) old (ex .gone) false u t-at st-y ex-at (eb .2) (cu .len1)
+      (cu .len2) lead wr content (inl (pt .typed)) ow kept w2);
   under = wr .under;
 }
   where
@@ -139,7 +159,9 @@ put-in ds top N y T s u a ls w lx t-at st-y ty-y ow x-at free pt wo = record {
     w2 = subst (λ z. Invariant ds (top ∷ (N1 ++ (ex ∷ N2))) (y ∷ z) s) (cu .is) w1
 
     tr-is : tr ≡ pt .whole
-    tr-is = some-is (sym (level-mid (cu .T1) tr (cu .T2)) ∙ ap (λ z. at-level z (length (cu .T2))) (sym (cu .is)) ∙ ap (at-level T) (cu .len2 ∙ sp .3) ∙ pt .holding)
+    tr-is =
+        some-is (sym (level-mid (cu .T1) tr (cu .T2)) ∙ ap (λ z. at-level z (length (cu .T2))) (sym (cu .is)) ∙ ap (at-level T)
+        (cu .len2 ∙ sp .3) ∙ pt .holding)
 
     old : Tree
     old = pt .part
@@ -148,7 +170,10 @@ put-in ds top N y T s u a ls w lx t-at st-y ty-y ow x-at free pt wo = record {
     lead = ap (subtree (a .path)) tr-is ∙ pt .leading
 
     f-ex : Entry-ok ds (s .roots) (rooted r 0) (ex .gone) (own tx) tr N2 (cu .T2)
-    f-ex = subst (λ z. Entry-ok ds (s .roots) z (ex .gone) (own tx) tr N2 (cu .T2)) ex-at (subst (λ z. Entry-ok ds (s .roots) (ex .at) (ex .gone) z tr N2 (cu .T2)) (eb .2) (entry-ok-mid ds (s .roots) N1 (cu .T1) ex N2 tr (cu .T2) (cu .len1) (w2 .fine .1)))
+    f-ex =
+        subst (λ z. Entry-ok ds (s .roots) z (ex .gone) (own tx) tr N2 (cu .T2)) ex-at
+        (subst (λ z. Entry-ok ds (s .roots) (ex .at) (ex .gone) z tr N2 (cu .T2)) (eb .2)
+        (entry-ok-mid ds (s .roots) N1 (cu .T1) ex N2 tr (cu .T2) (cu .len1) (w2 .fine .1)))
 
     rd : read-at s (loc-down (here r) (a .path) tr) ≡ some (flat old)
     rd = reads-way s (here r) (a .path) tr old lead (f-ex .1) (reads s r (flat tr) 0 (f-ex .0))
@@ -165,17 +190,26 @@ put-in ds top N y T s u a ls w lx t-at st-y ty-y ow x-at free pt wo = record {
 
     kept : Refs-stay ds r (a .path) tr y ex ex-at (ex .gone) N2 (cu .T2) (cu .len2) N1
     kept j al t b ms part at-j cell lead2 ty = subtree-replace ds (here r) (a .path) (b .path) tr y old part u t lead (pt .typed) ty-y
-        (λ bel. none-below (kinds N) (sn .exclusivity) lx (borrow true u a ls) a x-at refl refl free j (borrow al t b ms) b (ap (λ z. at-level (kinds z) j) (sp .2) ∙ at-j) refl (sym (sp .3) ∙ sym cell) bel) lead2 ty
+        (λ bel. none-below (kinds N) (sn .exclusivity) lx (borrow true u a ls) a x-at refl refl free j (borrow al t b ms) b
+        (ap (λ z. at-level (kinds z) j) (sp .2) ∙ at-j) refl (sym (sp .3) ∙ sym cell) bel) lead2 ty
 
-stores-is : (g : ch.Env) (x : Lexeme) (t tx : Ty) (h : ch.Env) → stores g x t tx ≡ some h → (u : Ty) × (tx ≡ mut u) × (owned u ≡ true) × (t ≡ u) × (is-free (all-loans g) x ≡ true) × (g ≡ h)
+stores-is : (g : ch.Env) (x : Lexeme) (t tx : Ty) (h : ch.Env) → stores g x t tx ≡ some h
+    → (u : Ty) × (tx ≡ mut u) × (owned u ≡ true) × (t ≡ u) × (is-free (all-loans g) x ≡ true) × (g ≡ h)
 stores-is g x t int h e = absurd (no-some e)
 stores-is g x t (dat d) h e = absurd (no-some e)
 stores-is g x t (box u) h e = absurd (no-some e)
 stores-is g x t (ref u) h e = absurd (no-some e)
 stores-is g x t (mut u) h e =
     let z = only-is (owned u && (same-ty t u && is-free (all-loans g) x)) (some g) h e in
-    let z2 = and-right (owned u) (same-ty t u && is-free (all-loans g) x) (z .0) in
-    (u, refl, and-left (owned u) (same-ty t u && is-free (all-loans g) x) (z .0), same-ty-is t u (and-left (same-ty t u) (is-free (all-loans g) x) z2), and-right (same-ty t u) (is-free (all-loans g) x) z2, some-is (z .1))
+    let z2 = and-right (owned u) (same-ty t u && is-free (all-loans g) x) (z .0) in (
+      u,
+      refl,
+      and-left (owned u) (same-ty t u && is-free (all-loans g) x) (z .0),
+      same-ty-is t u
+          (and-left (same-ty t u) (is-free (all-loans g) x) z2),
+      and-right (same-ty t u) (is-free (all-loans g) x) z2,
+      some-is (z .1),
+    )
 
 pub typed-there : (ds : List Data) (x : Tree) (t : Ty) → Typed ds x t → me.there (flat x) ≡ some (flat x)
 typed-there ds (int-t k) t ty = refl
@@ -192,13 +226,15 @@ pub record Mut-at (ds : List Data) (N : List Entry) (T : List Tree) (s : State) 
   pub reads-it : read-at s (here root) ≡ some val
   pub points : Valid-ref ds N T u addr val
 
-mut-at : (ds : List Data) (N : List Entry) (T : List Tree) (s : State) (lx root : ℕ) (u : Ty) (e : Entry) → Kind-fits (mut u) (e .kind) → e .at ≡ rooted root 0 → at-level N lx ≡ some e → Entries-ok ds (s .roots) N T → Mut-at ds N T s lx root u
+mut-at : (ds : List Data) (N : List Entry) (T : List Tree) (s : State) (lx root : ℕ) (u : Ty) (e : Entry) → Kind-fits (mut u) (e .kind)
+    → e .at ≡ rooted root 0 → at-level N lx ≡ some e → Entries-ok ds (s .roots) N T → Mut-at ds N T s lx root u
 mut-at ds N T s lx root u e su e-at at1 fi = go (e .kind) su (level-kinds N lx e at1) (st .fine1)
   where
     st : Entry-at ds (s .roots) N T lx e
     st = entry-at ds (s .roots) N T lx e fi at1
 
-    go : (sh : Kind) → Kind-fits (mut u) sh → at-level (kinds N) lx ≡ some sh → Entry-ok ds (s .roots) (e .at) (e .gone) sh (st .tree) N T → Mut-at ds N T s lx root u
+    go : (sh : Kind) → Kind-fits (mut u) sh → at-level (kinds N) lx ≡ some sh → Entry-ok ds (s .roots) (e .at) (e .gone) sh (st .tree) N T
+        → Mut-at ds N T s lx root u
     go (own t) k a f = absurd (true-false (sym (k .1) ∙ ap owned (sym (k .0))))
     go (borrow true t b ls) k a f =
         let t-is : u ≡ t = cc in
@@ -214,7 +250,10 @@ mut-at ds N T s lx root u e su e-at at1 fi = go (e .kind) su (level-kinds N lx e
     go inert k a f = absurd k
 
 -- *x = e
-pub store-step : (q : Prog) (m : Limits) (u : ℕ) → Preserved q m u → (C : List Entry) (ln : List Level-loan) (g g2 : ch.Env) (d : me.Env) (F : List Entry) (T : List Tree) (s : State) (x : Lexeme) (e1 : Expr) → ch.stmt q g (store x e1) ≡ some g2 → Frame C ln [] g d [] F → Invariant (q .datas) (F ++ C) T s → Safe (After-exec q C ln g2 d (s .under)) (exec (suc u) m q d (store x e1) s)
+pub store-step : (q : Prog) (m : Limits) (u : ℕ) → Preserved q m u
+    → (C : List Entry) (ln : List Level-loan) (g g2 : ch.Env) (d : me.Env) (F : List Entry) (T : List Tree) (s : State) (x : Lexeme) (e1 : Expr)
+    → ch.stmt q g (store x e1) ≡ some g2 → Frame C ln [] g d [] F → Invariant (q .datas) (F ++ C) T s
+    → Safe (After-exec q C ln g2 d (s .under)) (exec (suc u) m q d (store x e1) s)
 unfolding me.eval
 store-step q m u h C ln g g2 d F T s x e1 e sc w =
     let y = if-some-is (ch.expr q [] g e1) (λ r. if-some (ch.there (r .env) x) (λ v. stores (r .env) x (r .ty) (v .ty))) g2 e in
@@ -225,7 +264,8 @@ store-step q m u h C ln g g2 d F T s x e1 e sc w =
     let si = stores-is (r .env) x (r .ty) (vx .ty) g2 (y2 .2) in
     let tu = si .0 in
     let P = After-exec q C ln g2 d (s .under) in
-    let f4 : Value → State → Loc → Value → Res me.Env = λ v t l old. me.need t (write-at t l v) (λ t2. me.then (drops u m q old t2) (λ j t3. me.ok d t3)) in
+    let f4 : Value → State → Loc → Value → Res me.Env = λ v t l old. me.need t (write-at t l v)
+    (λ t2. me.then (drops u m q old t2) (λ j t3. me.ok d t3)) in
     let f3 : Value → State → Loc → Res me.Env = λ v t l. me.need t (if-some (read-at t l) me.there) (f4 v t l) in
     let f2 : Value → State → Value → Res me.Env = λ v t k. me.need t (loc-of k) (f3 v t) in
     let f1 : Value → State → ℕ → Res me.Env = λ v t k. me.need t (read-at t (here k)) (f2 v t) in
@@ -233,15 +273,22 @@ store-step q m u h C ln g g2 d F T s x e1 e sc w =
     (h .eval-ok C ln [] g d [] F T s e1 r (y .1) sc w)
     (λ v t a. (let fl : Value-entry v tu (a .top) = subst (λ k. Value-entry v k (a .top)) (si .3) (a .flight) in
     let o = owned-top (q .datas) (a .top) (a .F ++ C) (a .T) t v tu (si .2) fl (a .world) in
-    let w2 : Invariant (q .datas) (a .top ∷ (a .F ++ C)) (o .tree ∷ o .rest) t = subst (λ k. Invariant (q .datas) (a .top ∷ (a .F ++ C)) k t) (o .trees) (a .world) in
+    let w2 : Invariant (q .datas) (a .top ∷ (a .F ++ C)) (o .tree ∷ o .rest) t = subst (λ k. Invariant (q .datas) (a .top ∷ (a .F ++ C)) k t)
+    (o .trees) (a .world) in
     let sc2 : Frame C ln [] (r .env) d [] (a .F) = record { names = a .names; above = λ l i. absurd i; under = sc .under } in
     let en = name-entry C ln (r .env) d (a .F) x vx (a .names) (th .0) in
-    let mu = mut-at (q .datas) (a .F ++ C) (o .rest) t (en .level) (en .root) tu (en .en) (subst (λ k. Kind-fits k (en .en .kind)) (si .1) (en .type)) (en .placed) (en .stands) (w2 .fine .1) in
-    let free = not-lent-by-name C ln [] (r .env) d [] (a .F) x (en .level) false sc2 (anchored-under (a .F) C (w2 .borrows .anchored .1)) (en .levelled) (free-not-among (all-loans (r .env)) x (si .4)) in
-    let pu = put-in (q .datas) (a .top) (a .F ++ C) (o .tree) (o .rest) t tu (mu .addr) (mu .ls) (mu .val) (en .level) (fl .place ∙ ap in-flight (o .value)) (o .stored) (o .typed) (si .2) (mu .shaped) free (mu .points) w2 in
+    let mu = mut-at (q .datas) (a .F ++ C) (o .rest) t (en .level) (en .root) tu (en .en) (subst (λ k. Kind-fits k (en .en .kind)) (si .1) (en .type))
+    (en .placed) (en .stands) (w2 .fine .1) in
+    let free = not-lent-by-name C ln [] (r .env) d [] (a .F) x (en .level) false sc2 (anchored-under (a .F) C (w2 .borrows .anchored .1))
+    (en .levelled) (free-not-among (all-loans (r .env)) x (si .4)) in
+    let pu = put-in (q .datas) (a .top) (a .F ++ C) (o .tree) (o .rest) t tu (mu .addr) (mu .ls) (mu .val) (en .level)
+    (fl .place ∙ ap in-flight (o .value)) (o .stored) (o .typed) (si .2) (mu .shaped) free (mu .points) w2 in
     safe-need P t (root-of d x) (f1 v t) (en .root) (en .named)
     (safe-need P t (read-at t (here (en .root))) (f2 v t) (mu .val) (mu .reads-it)
     (safe-need P t (loc-of (mu .val)) (f3 v t) (pu .loc) (ap loc-of (pu .place))
-    (safe-need P t (if-some (read-at t (pu .loc)) me.there) (f4 v t (pu .loc)) (flat (pu .old)) (ap (λ z. if-some z me.there) (pu .reads-old) ∙ typed-there (q .datas) (pu .old) tu (pu .typed))
-    (safe-need P t (write-at t (pu .loc) v) (λ t2. me.then (drops u m q (flat (pu .old)) t2) (λ j t3. me.ok d t3)) (pu .s2) (ap (write-at t (pu .loc)) (o .value) ∙ pu .writes-new)
-    (drop-old q m u h C ln g2 d (a .F) (pu .old ∷ pu .T) (pu .s2) (s .under) (removed-entry (pu .old) false tu) (flat (pu .old)) refl (pu .under ∙ a .under) (subst (λ k. Scope (length C) ln k d (a .F)) (si .5) (a .names)) (pu .world))))))))
+    (safe-need P t (if-some (read-at t (pu .loc)) me.there) (f4 v t (pu .loc)) (flat (pu .old))
+    (ap (λ z. if-some z me.there) (pu .reads-old) ∙ typed-there (q .datas) (pu .old) tu (pu .typed))
+    (safe-need P t (write-at t (pu .loc) v) (λ t2. me.then (drops u m q (flat (pu .old)) t2) (λ j t3. me.ok d t3)) (pu .s2)
+    (ap (write-at t (pu .loc)) (o .value) ∙ pu .writes-new)
+    (drop-old q m u h C ln g2 d (a .F) (pu .old ∷ pu .T) (pu .s2) (s .under) (removed-entry (pu .old) false tu) (flat (pu .old)) refl
+    (pu .under ∙ a .under) (subst (λ k. Scope (length C) ln k d (a .F)) (si .5) (a .names)) (pu .world))))))))
