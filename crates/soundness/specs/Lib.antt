@@ -6,3 +6,4 @@ pub mod Borrows
 pub mod Invariant
 pub mod Frames
 pub mod Preserved
+pub mod References

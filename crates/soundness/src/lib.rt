@@ -1,6 +1,7 @@
 ghost use Rattle.language.specs.Says.{«Never-wrong», «Nothing-left», «Enough-fuel», «More-fuel»};
 ghost use Rattle.soundness.specs.Fuel.{«Fuel-for-any»};
 ghost use Rattle.soundness.specs.Preserved.{«Invariant-kept»};
+ghost use Rattle.soundness.specs.References.{«There-typed», «Reference-valid», «None-into-free», «None-below-free», «References-down»};
 ghost use Rattle.soundness.specs.Numbers.{«Shown-grows», «Words-kept», «Shown-small»};
 
 // Each function here is a theorem: its contract is the statement, and there is nothing to compute.
@@ -44,6 +45,41 @@ pub fn more_fuel() -> u8
 // type, what isn't gone is there, every live root is held once.
 pub fn invariant_kept() -> u8
     ensures { λ _. ⌜ «Invariant-kept» ⌝ }
+{
+    0
+}
+
+// Under the invariant, an owned name that isn't gone holds a value of its type.
+pub fn there_typed() -> u8
+    ensures { λ _. ⌜ «There-typed» ⌝ }
+{
+    0
+}
+
+// A name that is a reference leads to a live place, where a value of its type is.
+pub fn reference_valid() -> u8
+    ensures { λ _. ⌜ «Reference-valid» ⌝ }
+{
+    0
+}
+
+// No reference leads into an owned name that is free: what is moved, assigned, opened or taken apart.
+pub fn none_into_free() -> u8
+    ensures { λ _. ⌜ «None-into-free» ⌝ }
+{
+    0
+}
+
+// No reference leads strictly below the place of a free mut: what is written through it.
+pub fn none_below_free() -> u8
+    ensures { λ _. ⌜ «None-below-free» ⌝ }
+{
+    0
+}
+
+// References lead to older entries, so none is left into what ends or is dropped at the top of the stack.
+pub fn references_down() -> u8
+    ensures { λ _. ⌜ «References-down» ⌝ }
 {
     0
 }

@@ -31,7 +31,7 @@ owned-value ds rs e x N T v t ow fl f0 = go (e .kind) (fl .type) (subst (λ z. E
     go (borrow false u a ls) su f = absurd (true-false (sym ow ∙ ap owned su))
     go inert su f = absurd su
 
-owned-kind : (t : Ty) (sh : Kind) → owned t ≡ true → Kind-fits t sh → sh ≡ own t
+pub owned-kind : (t : Ty) (sh : Kind) → owned t ≡ true → Kind-fits t sh → sh ≡ own t
 owned-kind t (own u) ow su = ap own (sym (su .0))
 owned-kind t (borrow true u a ls) ow su = absurd (true-false (sym ow ∙ ap owned su))
 owned-kind t (borrow false u a ls) ow su = absurd (true-false (sym ow ∙ ap owned su))
