@@ -20,7 +20,7 @@ use Rattle.soundness.proofs.Basics.{true-false, and-left, and-right}
 use Rattle.soundness.proofs.invariant.Top.{pop-int}
 use Rattle.soundness.proofs.statics.Rules.{same-ty-is}
 use Rattle.soundness.proofs.statics.Accepted.{okay, fns-ok}
-use Rattle.soundness.proofs.Safety.{preserved-zero}
+use Rattle.soundness.proofs.Safety.{preserved-zero, ended, stopped}
 use Rattle.soundness.proofs.drops.Drops.{drops-all-suc, ends-suc, parts-suc, drops-suc}
 use Rattle.soundness.proofs.drops.Lasts.{lasts-suc}
 use Rattle.soundness.proofs.exprs.Args.{evals-suc}
@@ -87,7 +87,7 @@ run-ok u m q ins o =
     (subst (λ z. Arguments [] z me.nil-v) (sym (mn .2)) no-args) (λ l i. absurd i) (first-world q ins)))
 
 pub never-wrong : «Never-wrong»
-never-wrong u m q ins s o e = subst (Safe (After-call q [] [] int 0)) e (run-ok u m q ins o)
+never-wrong u m q ins s o e = stopped (subst (Safe (After-call q [] [] int 0)) e (run-ok u m q ins o))
 
 live-total : (i : ℕ) (rs : List Root) → live-sum (λ j w. 1) i rs ≡ live-roots rs
 live-total i [] = refl
@@ -95,6 +95,6 @@ live-total i (r ∷ rs) = ap (λ z. choose (r .live) 1 0 + z) (live-total (suc i
 
 pub nothing-left : «Nothing-left»
 nothing-left u m q ins v s o e =
-    let a : After-call q [] [] int 0 v s = subst (Safe (After-call q [] [] int 0)) e (run-ok u m q ins o) in
+    let a : After-call q [] [] int 0 v s = ended (subst (Safe (After-call q [] [] int 0)) e (run-ok u m q ins o)) in
     let w = pop-int (q .datas) (a .top) [] (a .T) s v (a .flight) (a .world) in
     (sym (live-total 0 (s .roots)) ∙ sym (w .1 .sums (λ j k. 1)), w .1 .counted .in-all ∙ sym (w .1 .sums is-box), a .under)

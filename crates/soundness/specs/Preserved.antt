@@ -24,9 +24,10 @@ Not-wrong no-heap = Unit {0}
 Not-wrong no-stack = Unit {0}
 Not-wrong no-turns = Unit {0}
 
-abbrev pub Safe : {A : Type 0} → (A → State → Type 0) → Res A → Type 0
-Safe P (me.ok a s) = P a s
-Safe P (stop k s) = Not-wrong k
+-- where it ends P holds; else it stopped, and not as wrong
+pub data Safe {A : Type 0} (P : A → State → Type 0) : Res A → Type 0 where
+  safe-ok : {a : A} {s : State} → P a s → Safe P (me.ok a s)
+  safe-stop : {k : Stop} {s : State} → Not-wrong k → Safe P (stop k s)
 
 -- what's there behind an expression: the value's entry on top, and the frame's with the flags of the names behind it; all that's under the frame is the same
 pub record After-eval (q : Prog) (C : List Entry) (lent1 : List Level-loan) (d : me.Env) (H : List Entry) (r : ch.Typed) (k : ℕ) (v : Value)

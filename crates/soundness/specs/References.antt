@@ -25,23 +25,29 @@ There-typed = (ds : List Data) (C : List Entry) (ln : List Level-loan) (held : L
 
 -- a name that is a reference leads to a live place, where a value of its type is
 abbrev pub Reference-valid : Type 0
-Reference-valid = (ds : List Data) (C : List Entry) (ln : List Level-loan) (held : List Loan) (g : ch.Env) (d : me.Env) (H F : List Entry) (T : List Tree)
+Reference-valid =
+    (ds : List Data) (C : List Entry) (ln : List Level-loan) (held : List Loan) (g : ch.Env) (d : me.Env) (H F : List Entry) (T : List Tree)
     (s : State) (x : Lexeme) (v : Var) (t : Ty) → Frame C ln held g d H F → Invariant ds (H ++ (F ++ C)) T s → look g x ≡ some v
     → (v .ty ≡ ref t) ⊎ (v .ty ≡ mut t)
     → (r : ℕ) × (l : Loc) × (y : Tree) × (root-of d x ≡ some r) × (read-at s (here r) ≡ some (ref-v l)) × (read-at s l ≡ some (flat y)) × Typed ds y t
 
 -- no reference of the stack leads into a free name that owns: what is moved, assigned, opened or taken apart
 abbrev pub None-into-free : Type 0
-None-into-free = (ds : List Data) (C : List Entry) (ln : List Level-loan) (held : List Loan) (g : ch.Env) (d : me.Env) (H F : List Entry) (T : List Tree)
-    (s : State) (x : Lexeme) (v : Var) (lx : ℕ) → Frame C ln held g d H F → Invariant ds (H ++ (F ++ C)) T s → look g x ≡ some v → owned (v .ty) ≡ true
+None-into-free =
+    (ds : List Data) (C : List Entry) (ln : List Level-loan) (held : List Loan) (g : ch.Env) (d : me.Env) (H F : List Entry) (T : List Tree)
+    (s : State) (x : Lexeme) (v : Var) (lx : ℕ) → Frame C ln held g d H F → Invariant ds (H ++ (F ++ C)) T s → look g x ≡ some v
+    → owned (v .ty) ≡ true
     → is-free (held ++ all-loans g) x ≡ true → name-level (length C) g x ≡ some lx
-    → (j : ℕ) (al : Bool) (t : Ty) (a : Addr) (ls : List Level-loan) → at-level (kinds (H ++ (F ++ C))) j ≡ some (borrow al t a ls) → a .owner ≡ lx → ⊥
+    → (j : ℕ) (al : Bool) (t : Ty) (a : Addr) (ls : List Level-loan) → at-level (kinds (H ++ (F ++ C))) j ≡ some (borrow al t a ls)
+    → a .owner ≡ lx → ⊥
 
 -- none leads strictly below the place that a free mut is of: what is written through it
 abbrev pub None-below-free : Type 0
-None-below-free = (ds : List Data) (C : List Entry) (ln : List Level-loan) (held : List Loan) (g : ch.Env) (d : me.Env) (H F : List Entry) (T : List Tree)
+None-below-free =
+    (ds : List Data) (C : List Entry) (ln : List Level-loan) (held : List Loan) (g : ch.Env) (d : me.Env) (H F : List Entry) (T : List Tree)
     (s : State) (x : Lexeme) (lx : ℕ) (u : Ty) (ax : Addr) (lx-loans : List Level-loan) → Frame C ln held g d H F → Invariant ds (H ++ (F ++ C)) T s
-    → is-free (held ++ all-loans g) x ≡ true → name-level (length C) g x ≡ some lx → at-level (kinds (H ++ (F ++ C))) lx ≡ some (borrow true u ax lx-loans)
+    → is-free (held ++ all-loans g) x ≡ true → name-level (length C) g x ≡ some lx
+    → at-level (kinds (H ++ (F ++ C))) lx ≡ some (borrow true u ax lx-loans)
     → (j : ℕ) (al : Bool) (t : Ty) (a : Addr) (ls : List Level-loan) → at-level (kinds (H ++ (F ++ C))) j ≡ some (borrow al t a ls)
     → ax .owner ≡ a .owner → Strictly-below (ax .path) (a .path) → ⊥
 

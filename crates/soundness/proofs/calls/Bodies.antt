@@ -12,7 +12,7 @@ use Rattle.language.specs.Meaning.{Value, State, Limits, Res, tails, execs, end
 use Rattle.language.specs.Meaning as me
 use Rattle.soundness.specs.Invariant.{kinds, Invariant}
 use Rattle.soundness.specs.Frames.{Roots-named, No-borrows}
-use Rattle.soundness.specs.Preserved.{Safe, After-give, After-exec, After-end, Bodies-ok, Preserved}
+use Rattle.soundness.specs.Preserved.{safe-ok, Safe, After-give, After-exec, Bodies-ok, Preserved}
 use Rattle.soundness.proofs.Basics.{true-false}
 use Rattle.soundness.proofs.statics.Scopes.{scope-distinct, grows-lent}
 use Rattle.soundness.proofs.statics.Stmts.{stmts-grows}
@@ -34,12 +34,11 @@ bodies-suc q m u o hyp C ln g d k h F T s qs t (body ss tl) e lp d-is sc w = go 
         → Safe Post (me.then (execs u m q d ss s) rest)
     go none eq e1 = absurd (true-false (sym e1))
     go (some g2) eq e1 =
-        safe-then (After-exec q C ln g2 d (s .under)) Post (execs u m q d ss s) rest (hyp .execs-ok C ln g g2 d F T s ss eq sc w) behind
+        safe-then Post (hyp .execs-ok C ln g g2 d F T s ss eq sc w) behind
       where
         behind : (i : me.Env) (z : State) → After-exec q C ln g2 d (s .under) i z → Safe Post (rest i z)
         behind i z a =
-            safe-then (After-give q C ln i t (z .under)) Post (tails u m q i tl z) (λ v y. me.then (ends u m q (newer i h) y) (λ j x. me.ok v x))
-            (hyp .tails-ok C ln g2 i (a .F) (a .T) z qs t tl e1
+            safe-then Post (hyp .tails-ok C ln g2 i (a .F) (a .T) z qs t tl e1
             (grows-lent qs g g2 (stmts-grows q g ss g2 (scope-distinct (length C) ln g d F (sc .names)) eq) lp)
             (record { names = a .names; above = λ l j. absurd j; under = sc .under }) (a .world))
             given
@@ -54,11 +53,10 @@ bodies-suc q m u o hyp C ln g d k h F T s qs t (body ss tl) e lp d-is sc w = go 
             given v y b =
                 let pa = roots-parted (a .newer ++ k) h (b .F) (subst (λ j. Roots-named j (b .F)) i-is (b .named)) in
                 subst (λ j. Safe Post (me.then (ends u m q j y) (λ j1 x. me.ok v x))) (sym new-is)
-                (safe-then (λ j x. After-end q (pa .1 ++ (b .top ∷ C)) (y .under) x) Post (ends u m q (a .newer ++ k) y) (λ j x. me.ok v x)
-                (hyp .ends-ok (pa .0) (pa .1 ++ (b .top ∷ C)) (b .T) y (a .newer ++ k) (pa .3)
+                (safe-then Post (hyp .ends-ok (pa .0) (pa .1 ++ (b .top ∷ C)) (b .T) y (a .newer ++ k) (pa .3)
                 (subst (λ j. Invariant (q .datas) j (b .T) y)
                 (ap (λ j. j ++ (b .top ∷ C)) (pa .2) ∙ append-assoc (pa .0) (pa .1) (b .top ∷ C)) (b .world)))
-                (λ j x f. record {
+                (λ j x f. safe-ok (record {
                   top = b .top;
                   F = pa .1;
                   T = f .T;
@@ -70,4 +68,4 @@ bodies-suc q m u o hyp C ln g d k h F T s qs t (body ss tl) e lp d-is sc w = go 
                   world = f .world;
                   under = f .under
                       ∙ b .under ∙ a .under;
-                }))
+                })))

@@ -11,7 +11,7 @@ use Rattle.language.specs.Base.{choose, Lexeme, same, is-in, each-of, no-twice}
 use Rattle.language.specs.Syntax.{Ty, Data, Prog, Param}
 use Rattle.language.specs.Checks.{Var, types-of-pars, owned, look, enter, pars-env, ref-pars, names-of-pars, well-made, is-body}
 use Rattle.language.specs.Checks as ch
-use Rattle.language.specs.Meaning.{Value, Values, State, Limits, list-of, with-under, bodies, append, nil-v, cons-v, adds-root, roots-in, names-in, names-of, frame}
+use Rattle.language.specs.Meaning.{Value, Values, State, Limits, list-of, with-under, append, nil-v, cons-v, adds-root, roots-in, names-in, names-of, frame}
 use Rattle.language.specs.Meaning as me
 use Rattle.soundness.specs.Borrows.{In, Level-loan, loans-of}
 use Rattle.soundness.specs.Trees.{Tree}
@@ -202,13 +202,9 @@ given-call q C A t j k v s a = go (a .F) (a .named) (a .world)
 pub calls-suc : (q : Prog) (m : Limits) (u : ℕ) → ch.accepts q ≡ true → Preserved q m u → Calls-ok q m (suc u)
 unfolding me.eval
 calls-suc q m u o h C A T s f vs ok1 fl low w =
-    safe-turn (After-call q C A (f .ret) (s .under)) m s
-    (λ t. me.goes-under m (frame q f) t (λ z. me.need z (names-in [] z (names-of (f .pars)) (list-of vs))
-    (λ g. bodies u m q g [] (f .does) (roots-in z (list-of vs)))))
-    (safe-under (After-give q C ln [] (f .ret) (roots-in s2 (list-of vs) .under)) (After-call q C A (f .ret) (s .under)) m (frame q f) s1
-    (λ z. me.need z (names-in [] z (names-of (f .pars)) (list-of vs)) (λ g. bodies u m q g [] (f .does) (roots-in z (list-of vs))))
-    (safe-need (After-give q C ln [] (f .ret) (roots-in s2 (list-of vs) .under)) s2 (names-in [] s2 (names-of (f .pars)) (list-of vs))
-    (λ g. bodies u m q g [] (f .does) (roots-in s2 (list-of vs))) (en .env) (en .named)
+    safe-turn (After-call q C A (f .ret) (s .under)) _ _ _
+    (safe-under (After-call q C A (f .ret) (s .under)) _ _ _ _
+    (safe-need (After-give q C ln [] (f .ret) (roots-in s2 (list-of vs) .under)) _ _ _ (en .named)
     (h .bodies-ok C ln (pars-env (f .pars) []) (en .env) (en .env) [] (en .F) T (roots-in s2 (list-of vs)) (ref-pars (f .pars)) (f .ret)
     (f .does) is-b (lent-of (f .pars) [] nt) (sym (append-nil (en .env)))
     (record { names = en .names; above = λ l i. absurd i; under = low }) (en .world)))

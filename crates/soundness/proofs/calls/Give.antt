@@ -106,11 +106,10 @@ give-step q m u h C ln g d F T s qs t x e lp sc w = go (ch.expr q [] g x) refl e
     go none ex e1 = absurd (true-false (sym e1))
     go (some r) ex e1 =
         let ty-is : r .ty ≡ t = same-ty-is (r .ty) t (and-left (same-ty (r .ty) t) (from-caller (suc (length g)) g qs (r .loans)) e1) in
-        safe-weaken (After-eval q C ln d [] r (s .under)) (After-give q C ln d t (s .under)) (eval u m q d x s)
+        safe-weaken (After-give q C ln d t (s .under)) (h .eval-ok C ln [] g d [] F T s x r ex sc w)
         (λ v z a. subst (λ y. After-give q C ln d y (s .under) v z) ty-is
         (give-after q C ln g d qs r (s .under) v z (suc (length g)) (expr-like q [] g x r ex) lp (sc .under)
         (and-right (same-ty (r .ty) t) (from-caller (suc (length g)) g qs (r .loans)) e1) a))
-        (h .eval-ok C ln [] g d [] F T s x r ex sc w)
 
 -- give if e
 pub give-cond-step : (q : Prog) (m : Limits) (u : ℕ) → Preserved q m u

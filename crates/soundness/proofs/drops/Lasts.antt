@@ -8,7 +8,7 @@ use Prim.Native.Nat.{ℕ, suc, _<_}
 use native.Mathlib.Omega.{arith}
 use lib.ListN.{length}
 use Rattle.language.specs.Base.{if-some}
-use Rattle.language.specs.Syntax.{Ty, int, dat, mut, Data, Prog}
+use Rattle.language.specs.Syntax.{Ty, dat, mut, Data, Prog}
 use Rattle.language.specs.Checks as ch
 use Rattle.language.specs.Meaning.{State, Limits, here, read-at, calls, parts-of, ref-v, nil-v, cons-v, adds-root, kill}
 use Rattle.language.specs.Meaning as me
@@ -88,9 +88,7 @@ push-mut ds N r t x T s ty w = record {
 pub lasts-suc : (q : Prog) (m : Limits) (u : ℕ) → ch.accepts q ≡ true → Preserved q m u → Lasts-ok q m (suc u)
 unfolding me.eval
 lasts-suc q m u o h N x T s w f okf pars ret ty wo =
-    safe-then (After-call q C A int (s .under)) (λ k z. After-end q N (s .under) z) (calls u m q f (ref-v (here r) ∷ []) s1)
-    (λ k z. me.need z (read-at z (here r)) (λ y. parts-of u m q y (kill z r)))
-    (subst (λ z. Safe (After-call q C A z (s .under)) (calls u m q f (ref-v (here r) ∷ []) s1)) ret
+    safe-then (λ k z. After-end q N (s .under) z) (subst (λ z. Safe (After-call q C A z (s .under)) (calls u m q f (ref-v (here r) ∷ []) s1)) ret
     (h .calls-ok C A (hole-t ∷ (x ∷ T)) s1 f (cons-v (ref-v (here r)) nil-v) okf
     (subst (λ z. Arguments A z (cons-v (ref-v (here r)) nil-v)) (sym pars) flown) (λ l i. low l i)
     (push-mut (q .datas) N r (dat w) x T s1 ty (root-top (q .datas) (owned-entry x (dat w)) N x T s (flat x) refl wo))))
@@ -123,8 +121,7 @@ lasts-suc q m u o h N x T s w f okf pars ret ty wo =
             → Safe (λ k y. After-end q N (s .under) y) (me.need z (read-at z (here r)) (λ y. parts-of u m q y (kill z r)))
         go [] w3 = absurd (w3 .fine)
         go (y ∷ U2) w3 =
-            safe-need (λ k y1. After-end q N (s .under) y1) z (read-at z (here r)) (λ y1. parts-of u m q y1 (kill z r)) (flat y)
-            (reads z r (flat y) 0 (w3 .fine .0 .0))
+            safe-need (λ k y1. After-end q N (s .under) y1) _ _ _ (reads z r (flat y) 0 (w3 .fine .0 .0))
             (subst (λ k. Safe (λ k1 y1. After-end q N k y1) (parts-of u m q (flat y) (kill z r))) (killed-under z r ∙ un)
             (h .parts-ok N y U2 (kill z r) w (not-gone (q .datas) false (dat w) y refl (w3 .fine .0 .3))
             (kill-top (q .datas) (root-entry r (dat w)) N y U2 z r (flat y) refl (w3 .fine .0 .0) w3)))

@@ -12,13 +12,13 @@ use Rattle.language.specs.Base.{if-some, Lexeme, only-if}
 use Rattle.language.specs.Syntax.{Ty, dat, box, Expr, ctor, boxed, call, Exprs, Fn, Prog}
 use Rattle.language.specs.Checks.{Loan, fn-named, home-of, types-of-pars, loan, owned, Home, typed, holds}
 use Rattle.language.specs.Checks as ch
-use Rattle.language.specs.Meaning.{Value, con-v, State, Limits, list-of, eval, evals, calls, box-v, nil-v, with-classes, adds-root, makes-box, count-in, words-of, peaks}
+use Rattle.language.specs.Meaning.{Value, con-v, State, Limits, eval, nil-v, makes-box, count-in, words-of, peaks}
 use Rattle.language.specs.Meaning as me
 use Rattle.soundness.specs.Borrows.{In, Level-loan, Kind, own, borrow, inert, loans-of}
 use Rattle.soundness.specs.Trees.{Tree, con-t, box-t, flat}
 use Rattle.soundness.specs.Invariant.{in-flight, Entry, Invariant}
 use Rattle.soundness.specs.Frames.{Loans-cover, Kind-fits, Scope, Value-entry, all-loans-of, Arguments, no-args, Frame, owned-entry}
-use Rattle.soundness.specs.Preserved.{Safe, After-eval, After-args, After-call, Preserved}
+use Rattle.soundness.specs.Preserved.{safe-ok, safe-stop, Safe, After-eval, Preserved}
 use Rattle.soundness.proofs.Basics.{some-is, if-some-is, append-nil, only-is}
 use Rattle.soundness.proofs.invariant.Values.{Owned-top, owned-top}
 use Rattle.soundness.proofs.invariant.Construct.{make-con, words-is, make-box}
@@ -38,13 +38,11 @@ ctor-step q m u o h C ln held g d H F T s k es r e sc w =
     let hm : Home = y .0 in
     let z = if-some-is (ch.args q held g es (hm .ctor1 .fields)) (λ r2. typed (dat (hm .data1 .name)) [] (r2 .env)) r (y .2) in
     let r-is : record { ty = dat (hm .data1 .name); loans = []; env = z .0 .env } ≡ r = some-is (z .2) in
-    safe-then (After-args q C ln d [] H (hm .ctor1 .fields) (z .0) (s .under)) (After-eval q C ln d H r (s .under)) (evals u m q d es nil-v s)
-    (λ vs t. me.ok (con-v k vs) t)
-    (h .evals-ok C ln held g d [] H F T s es [] (hm .ctor1 .fields) nil-v (z .0) (z .1) no-args sc w)
+    safe-then (After-eval q C ln d H r (s .under)) (h .evals-ok C ln held g d [] H F T s es [] (hm .ctor1 .fields) nil-v (z .0) (z .1) no-args sc w)
     (λ vs t a. (
     let mk = make-con (q .datas) (H ++ (a .F ++ C)) (a .K) (hm .ctor1 .fields) vs (a .T) t k hm (y .1) refl
     (subst (λ i. Arguments i (hm .ctor1 .fields) vs) (append-nil (a .K)) (a .flown)) (fields-owned q o k hm (y .1)) (a .world) in
-    record {
+    safe-ok (record {
       top = owned-entry (con-t k (mk .0)) (dat (hm .data1 .name));
       F = a .F;
       T = con-t k (mk .0) ∷ mk .1;
@@ -53,7 +51,7 @@ ctor-step q m u o h C ln held g d H F T s k es r e sc w =
       names = subst (λ i. Scope (length C) ln (i .env) d (a .F)) r-is (a .names);
       world = mk .3;
       under = a .under;
-    }))
+    })))
 
 -- box e
 pub boxed-step : (q : Prog) (m : Limits) (u : ℕ) → Preserved q m u
@@ -62,8 +60,7 @@ pub boxed-step : (q : Prog) (m : Limits) (u : ℕ) → Preserved q m u
     → Safe (After-eval q C ln d H r (s .under)) (eval (suc u) m q d (boxed x) s)
 unfolding me.eval
 boxed-step q m u h C ln held g d H F T s x r e sc w =
-    safe-then (After-eval q C ln d H (y .0) (s .under)) Q (eval u m q d x s) (λ v t. makes-box m t v (words-of q v))
-    (h .eval-ok C ln held g d H F T s x (y .0) (y .1) sc w)
+    safe-then Q (h .eval-ok C ln held g d H F T s x (y .0) (y .1) sc w)
     (λ v t a. after v t a (owned-top (q .datas) (a .top) (H ++ (a .F ++ C)) (a .T) t v ty1 (ok1 .0) (a .flight) (a .world)))
   where
     Q : Value → State → Type 0
@@ -85,8 +82,7 @@ boxed-step q m u h C ln held g d H F T s x r e sc w =
         → Safe Q (makes-box m t v (words-of q v))
     after v t a ot = subst (λ i. Safe Q (makes-box m t i (words-of q i))) (sym (ot .value))
         (safe-choose Q (leb (peaks (count-in (t .classes) k)) (m .heap))
-        (me.ok (box-v (length (t .roots))) (with-classes (adds-root t (flat tr) k) (count-in (t .classes) k))) (me.stop me.no-heap t)
-        (λ i. record {
+        (λ i. safe-ok (record {
           top = owned-entry (box-t (length (t .roots)) k tr) (box ty1);
           F = a .F;
           T = box-t (length (t .roots)) k tr ∷ ot .rest;
@@ -97,8 +93,8 @@ boxed-step q m u h C ln held g d H F T s x r e sc w =
               make-box (q .datas) (a .top) (H ++ (a .F ++ C)) tr (ot .rest) t v ty1 k (a .flight .place) (words-is q tr ty1 (ot .typed)) (ot .stored)
               (ot .typed) (subst (λ j. Invariant (q .datas) (a .top ∷ (H ++ (a .F ++ C))) j t) (ot .trees) (a .world));
           under = a .under;
-        })
-        (λ i. tt))
+        }))
+        (λ i. safe-stop tt))
       where
         tr : Tree
         tr = ot .tree
@@ -137,11 +133,12 @@ call-step q m u o h C ln held g d H F T s f es r e sc w =
     let fn : Fn = y .0 in
     let z = if-some-is (ch.args q held g es (types-of-pars (fn .pars))) (λ r2. typed (fn .ret) (holds (fn .ret) (r2 .loans)) (r2 .env)) r (y .2) in
     let r-is : record { ty = fn .ret; loans = holds (fn .ret) (z .0 .loans); env = z .0 .env } ≡ r = some-is (z .2) in
-    safe-then (After-args q C ln d [] H (types-of-pars (fn .pars)) (z .0) (s .under)) (After-eval q C ln d H r (s .under)) (evals u m q d es nil-v s)
-    (λ vs t. me.need t (fn-named (q .funs) f) (λ k. calls u m q k (list-of vs) t))
+    safe-then (After-eval q C ln d H r (s .under))
     (h .evals-ok C ln held g d [] H F T s es [] (types-of-pars (fn .pars)) nil-v (z .0) (z .1) no-args sc w)
-    (λ vs t a. safe-need (After-eval q C ln d H r (s .under)) t (fn-named (q .funs) f) (λ k. calls u m q k (list-of vs) t) fn (y .1)
-    (safe-weaken (After-call q (H ++ (a .F ++ C)) (a .K) (fn .ret) (t .under)) (After-eval q C ln d H r (s .under)) (calls u m q fn (list-of vs) t)
+    (λ vs t a. safe-need (After-eval q C ln d H r (s .under)) _ _ _ (y .1)
+    (safe-weaken (After-eval q C ln d H r (s .under)) (h .calls-ok (H ++ (a .F ++ C)) (a .K) (a .T) t fn vs (fns-ok q o f fn (y .1))
+    (subst (λ i. Arguments i (types-of-pars (fn .pars)) vs) (append-nil (a .K)) (a .flown))
+    (covered-low C ln (z .0 .env) d H (a .F) (z .0 .loans) (all-loans-of (a .K)) (a .names) (sc .under) (a .covered)) (a .world))
     (λ v t2 a2. record {
       top = a2 .top;
       F = a .F;
@@ -160,7 +157,4 @@ call-step q m u o h C ln held g d H F T s f es r e sc w =
       names = subst (λ i. Scope (length C) ln (i .env) d (a .F)) r-is (a .names);
       world = a2 .world;
       under = a2 .under ∙ a .under;
-    })
-    (h .calls-ok (H ++ (a .F ++ C)) (a .K) (a .T) t fn vs (fns-ok q o f fn (y .1))
-    (subst (λ i. Arguments i (types-of-pars (fn .pars)) vs) (append-nil (a .K)) (a .flown))
-    (covered-low C ln (z .0 .env) d H (a .F) (z .0 .loans) (all-loans-of (a .K)) (a .names) (sc .under) (a .covered)) (a .world))))
+    })))

@@ -9,13 +9,13 @@ use Rattle.language.specs.Base.{Lexeme, only-if}
 use Rattle.language.specs.Syntax.{Ty, int, dat, box, ref, mut, Expr, num, op, load, get-e, Prog}
 use Rattle.language.specs.Checks.{Loan, Var, owned, look, readable, all-loans, typed, loadable}
 use Rattle.language.specs.Checks as ch
-use Rattle.language.specs.Meaning.{Loc, Value, int-v, State, Limits, Res, here, root-of, read-at, eval, loc-of, num-of, worked, next-read, two-64}
+use Rattle.language.specs.Meaning.{Loc, Value, int-v, State, Limits, Res, here, read-at, eval, loc-of, num-of, worked, next-read, two-64}
 use Rattle.language.specs.Meaning as me
-use Rattle.soundness.specs.Trees.{Tree, flat, Typed, loc-down}
+use Rattle.soundness.specs.Trees.{Tree, Typed, loc-down}
 use Rattle.soundness.specs.Borrows.{Addr, Level-loan, Kind, own, borrow, inert, at-level}
 use Rattle.soundness.specs.Invariant.{rooted, Entry, kinds, Entry-ok, Invariant}
 use Rattle.soundness.specs.Frames.{Kind-fits, Value-entry, Frame}
-use Rattle.soundness.specs.Preserved.{Safe, After-eval, Preserved}
+use Rattle.soundness.specs.Preserved.{safe-ok, Safe, After-eval, Preserved}
 use Rattle.soundness.proofs.Basics.{if-some-is, only-is, true-false, and-left}
 use Rattle.soundness.proofs.invariant.Top.{invariant-same, reads, pop-int}
 use Rattle.soundness.proofs.invariant.Values.{typed-int, top-int}
@@ -29,7 +29,7 @@ pub num-step : (q : Prog) (m : Limits) (u : ℕ) (C : List Entry) (ln : List Lev
     (T : List Tree) (s : State) (k : ℕ) (r : ch.Typed) → ch.expr q held g (num k) ≡ some r → Frame C ln held g d H F
     → Invariant (q .datas) (H ++ (F ++ C)) T s → Safe (After-eval q C ln d H r (s .under)) (eval (suc u) m q d (num k) s)
 unfolding me.eval
-num-step q m u C ln held g d H F T s k r e sc w = int-after q C ln g d H F T s k (s .under) r e (sc .names) w refl
+num-step q m u C ln held g d H F T s k r e sc w = safe-ok (int-after q C ln g d H F T s k (s .under) r e (sc .names) w refl)
 
 pub read-step : (q : Prog) (m : Limits) (u : ℕ) (C : List Entry) (ln : List Level-loan) (held : List Loan) (g : ch.Env) (d : me.Env)
     (H F : List Entry) (T : List Tree) (s : State) (r : ch.Typed) → ch.expr q held g get-e ≡ some r → Frame C ln held g d H F
@@ -44,7 +44,8 @@ read-step q m u C ln held g d H F T s r e sc w =
       ins = drop 1 (s .ins);
       outs = s .outs ++ (two-64 ∷ []);
     } in
-    int-after q C ln g d H F T s2 (next-read (s .ins)) (s .under) r e (sc .names) (invariant-same (q .datas) (H ++ (F ++ C)) T s s2 refl refl w) refl
+    safe-ok (int-after q C ln g d H F T s2 (next-read (s .ins)) (s .under) r e (sc .names)
+    (invariant-same (q .datas) (H ++ (F ++ C)) T s s2 refl refl w) refl)
 
 -- the two numbers leave the stack as soon as they're there
 pub op-step : (q : Prog) (m : Limits) (u : ℕ) → Preserved q m u
@@ -55,25 +56,22 @@ unfolding me.eval
 op-step q m u h C ln held g d H F T s o a1 a2 r e sc w =
     let y = with-ty-is (ch.expr q held g a1) int (λ ls k. ch.with-ty (ch.expr q held k a2) int (λ ms i. typed int [] i)) r e in
     let z = with-ty-is (ch.expr q held (y .0 .env) a2) int (λ ms i. typed int [] i) r (y .3) in
-    safe-then (After-eval q C ln d H (y .0) (s .under)) (After-eval q C ln d H r (s .under)) (eval u m q d a1 s)
-    (λ v t. me.then (eval u m q d a2 t) (λ v2 t2. me.need t2 (num-of v) (λ k1. me.need t2 (num-of v2) (λ k2. me.ok (int-v (worked o k1 k2)) t2))))
-    (h .eval-ok C ln held g d H F T s a1 (y .0) (y .1) sc w)
+    safe-then (After-eval q C ln d H r (s .under)) (h .eval-ok C ln held g d H F T s a1 (y .0) (y .1) sc w)
     (λ v t a. (
     let fl1 : Value-entry v int (a .top) = subst (λ k. Value-entry v k (a .top)) (y .2) (a .flight) in
     let i1 = top-int (q .datas) (a .top) (H ++ (a .F ++ C)) (a .T) t v fl1 (a .world) in
     let p1 = pop-int (q .datas) (a .top) (H ++ (a .F ++ C)) (a .T) t v fl1 (a .world) in
-    safe-then (After-eval q C ln d H (z .0) (t .under)) (After-eval q C ln d H r (s .under)) (eval u m q d a2 t)
-    (λ v2 t2. me.need t2 (num-of v) (λ k1. me.need t2 (num-of v2) (λ k2. me.ok (int-v (worked o k1 k2)) t2)))
-    (h .eval-ok C ln held (y .0 .env) d H (a .F) (p1 .0) t a2 (z .0) (z .1) (frame-after C ln held g (y .0 .env) d H F (a .F) sc (a .names)) (p1 .1))
+    safe-then (After-eval q C ln d H r (s .under))
+    (h .eval-ok C ln held (y .0 .env) d H (a .F) (p1 .0) t a2 (z .0) (z .1)
+    (frame-after C ln held g (y .0 .env) d H F (a .F) sc (a .names)) (p1 .1))
     (λ v2 t2 a3. (
     let fl2 : Value-entry v2 int (a3 .top) = subst (λ k. Value-entry v2 k (a3 .top)) (z .2) (a3 .flight) in
     let i2 = top-int (q .datas) (a3 .top) (H ++ (a3 .F ++ C)) (a3 .T) t2 v2 fl2 (a3 .world) in
     let p2 = pop-int (q .datas) (a3 .top) (H ++ (a3 .F ++ C)) (a3 .T) t2 v2 fl2 (a3 .world) in
-    safe-need (After-eval q C ln d H r (s .under)) t2 (num-of v) (λ k1. me.need t2 (num-of v2) (λ k2. me.ok (int-v (worked o k1 k2)) t2))
-    (i1 .0) (i1 .2)
-    (safe-need (After-eval q C ln d H r (s .under)) t2 (num-of v2) (λ k2. me.ok (int-v (worked o (i1 .0) k2)) t2) (i2 .0) (i2 .2)
-    (int-after q C ln (z .0 .env) d H (a3 .F) (p2 .0) t2 (worked o (i1 .0) (i2 .0)) (s .under) r (z .3) (a3 .names) (p2 .1)
-    (a3 .under ∙ a .under)))))))
+    safe-need (After-eval q C ln d H r (s .under)) _ _ _ (i1 .2)
+    (safe-need (After-eval q C ln d H r (s .under)) _ _ _ (i2 .2)
+    (safe-ok (int-after q C ln (z .0 .env) d H (a3 .F) (p2 .0) t2 (worked o (i1 .0) (i2 .0)) (s .under) r (z .3) (a3 .names) (p2 .1)
+    (a3 .under ∙ a .under))))))))
 
 -- *x
 pub load-step : (q : Prog) (m : Limits) (u : ℕ) (C : List Entry) (ln : List Level-loan) (held : List Loan) (g : ch.Env) (d : me.Env)
@@ -81,8 +79,7 @@ pub load-step : (q : Prog) (m : Limits) (u : ℕ) (C : List Entry) (ln : List Le
     → Invariant (q .datas) (H ++ (F ++ C)) T s → Safe (After-eval q C ln d H r (s .under)) (eval (suc u) m q d (load x) s)
 unfolding me.eval
 load-step q m u C ln held g d H F T s x r e sc w =
-    safe-need Q s (root-of d x) (λ k. me.need s (read-at s (here k)) (λ v. me.need s (loc-of v) after)) (pl .root) (pl .named)
-    (by-shape1 (pl .en .kind) (pl .type) (pl .at-sh) (pl .fine2))
+    safe-need Q _ _ _ (pl .named) (by-shape1 (pl .en .kind) (pl .type) (pl .at-sh) (pl .fine2))
   where
     N : List Entry
     N = H ++ (F ++ C)
@@ -127,11 +124,10 @@ load-step q m u C ln held g d H F T s x r e sc w =
         let rd = valid-ref-read (q .datas) N T s t (ow .0) a (fi .1 .0) w (ow .1) pt in
         let k = typed-int (q .datas) (pt .part) (subst (Typed (q .datas) (pt .part)) t-is (pt .typed)) in
         let loc : Loc = loc-down (here (pt .root)) (a .path) (pt .whole) in
-        safe-need Q s (read-at s (here (pl .root))) (λ z. me.need s (loc-of z) after) (fi .1 .0) (reads s (pl .root) (fi .1 .0) 0 (fi .1 .1))
-        (safe-need Q s (loc-of (fi .1 .0)) after loc (ap loc-of (pt .value))
-        (safe-need Q s (read-at s loc) (λ z. me.need s (num-of z) (λ j. me.ok (int-v j) s)) (flat (pt .part)) (rd .0)
-        (safe-need Q s (num-of (flat (pt .part))) (λ j. me.ok (int-v j) s) (k .0) (ap num-of (k .1))
-        (int-after q C ln g d H F T s (k .0) (s .under) r (ok1 .1) (sc .names) w refl))))
+        safe-need Q _ _ _ (reads s (pl .root) (fi .1 .0) 0 (fi .1 .1))
+        (safe-need Q _ _ _ (ap loc-of (pt .value))
+        (safe-need Q _ _ _ (rd .0)
+        (safe-need Q _ _ _ (ap num-of (k .1)) (safe-ok (int-after q C ln g d H F T s (k .0) (s .under) r (ok1 .1) (sc .names) w refl)))))
 
     by-shape1 : (sh : Kind) → Kind-fits (v .ty) sh → at-level (kinds N) (pl .level) ≡ some sh
         → Entry-ok (q .datas) (s .roots) (rooted (pl .root) 0) (v .gone) sh (pl .stands .tree) N T

@@ -11,13 +11,13 @@ use Rattle.language.specs.Base.{if-some, Lexeme, only-if}
 use Rattle.language.specs.Syntax.{mut, lend, Prog}
 use Rattle.language.specs.Checks.{Loan, Var, loan, owned, look, is-free, all-loans, typed}
 use Rattle.language.specs.Checks as ch
-use Rattle.language.specs.Meaning.{State, Limits, here, root-of, eval, ref-v}
+use Rattle.language.specs.Meaning.{State, Limits, here, eval, ref-v}
 use Rattle.language.specs.Meaning as me
 use Rattle.soundness.specs.Trees.{Tree, hole-t}
 use Rattle.soundness.specs.Borrows.{Addr, Level-loan, Kind, own, borrow, inert, at-level, addr-of, Lent}
 use Rattle.soundness.specs.Invariant.{Place, Entry, kinds, Entry-ok, Invariant}
 use Rattle.soundness.specs.Frames.{Loans-cover, Kind-fits, Scope, Frame}
-use Rattle.soundness.specs.Preserved.{Safe, After-eval}
+use Rattle.soundness.specs.Preserved.{safe-ok, Safe, After-eval}
 use Rattle.soundness.proofs.Basics.{some-is, if-some-is, only-is, true-false, and-left, and-right}
 use Rattle.soundness.proofs.loans.Stack.{level-below, reborrow, unobstructed-free}
 use Rattle.soundness.proofs.invariant.Levels.{anchored-under, level-kinds, Entry-at, entry-at, level-under, not-gone}
@@ -52,8 +52,8 @@ lend-step q m u C ln held g d H F T s x r e sc w =
         ok1 = only-is (owned (v .ty) && is-free (held ++ all-loans g) x) (typed (mut (v .ty)) (loan x true ∷ []) g) r (y .2)
 
         with-entry : Name-entry C ln g d F x v → Safe (After-eval q C ln d H r (s .under)) (eval (suc u) m q d (lend x) s)
-        with-entry en = safe-need (After-eval q C ln d H r (s .under)) s (root-of d x) (λ k. me.ok (ref-v (here k)) s) (en .root) (en .named)
-            (by-shape1 (en .en .kind) (en .type) (level-kinds N lx (en .en) at-N) (st .fine1))
+        with-entry en = safe-need (After-eval q C ln d H r (s .under)) _ _ _ (en .named)
+            (safe-ok (by-shape1 (en .en .kind) (en .type) (level-kinds N lx (en .en) at-N) (st .fine1)))
           where
             lx : ℕ
             lx = en .level

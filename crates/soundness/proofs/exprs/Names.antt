@@ -11,13 +11,13 @@ use Rattle.language.specs.Base.{Lexeme, only-if}
 use Rattle.language.specs.Syntax.{Ty, int, dat, box, ref, mut, var, share, Data, Prog}
 use Rattle.language.specs.Checks.{Loan, Var, loan, owned, look, set-gone, is-free, readable, all-loans, typed, value, shared}
 use Rattle.language.specs.Checks as ch
-use Rattle.language.specs.Meaning.{Loc, Value, int-v, State, Limits, here, root-of, read-at, place-of, eval, ref-v, hole, write-at, moves}
+use Rattle.language.specs.Meaning.{Loc, Value, State, Limits, here, root-of, read-at, place-of, eval, ref-v, hole, write-at, moves}
 use Rattle.language.specs.Meaning as me
 use Rattle.soundness.specs.Trees.{Tree, int-t, con-t, box-t, hole-t, flat, Typed, loc-down}
 use Rattle.soundness.specs.Borrows.{Addr, Level-loan, Kind, own, borrow, inert, at-level, loans-of}
 use Rattle.soundness.specs.Invariant.{rooted, Entry, kinds, Valid-ref, Entry-ok, Invariant}
 use Rattle.soundness.specs.Frames.{Loans-cover, Kind-fits, Scope, Frame}
-use Rattle.soundness.specs.Preserved.{Safe, After-eval}
+use Rattle.soundness.specs.Preserved.{safe-ok, Safe, After-eval}
 use Rattle.soundness.proofs.Basics.{no-some, some-is, if-some-is, only-is, true-false}
 use Rattle.soundness.proofs.loans.Stack.{unobstructed-free, unobstructed-readable, prefix-self}
 use Rattle.soundness.proofs.invariant.Levels.{not-gone}
@@ -86,11 +86,11 @@ module _ (q : Prog) (C : List Entry) (ln : List Level-loan) (held : List Loan) (
       → ((k : ℕ) (y : Tree) → Typed ds y t → Safe Q (me.need s (write-at s (here k) hole) (λ z. me.ok (flat y) z)) → Safe Q (moves s k (flat y)))
       → Safe Q (me.need s (root-of d x) (λ k. me.need s (read-at s (here k)) (λ z. moves s k z)))
   moved t t-is ow e how =
-      safe-need Q s (root-of d x) (λ k. me.need s (read-at s (here k)) (λ z. moves s k z)) (sw .root) (sw .named)
-      (safe-need Q s (read-at s (here (sw .root))) (λ z. moves s (sw .root) z) (flat (sw .old)) (sw .reads-old)
+      safe-need Q _ _ _ (sw .named)
+      (safe-need Q _ _ _ (sw .reads-old)
       (how (sw .root) (sw .old) (subst (Typed ds (sw .old)) t-is (not-gone ds (v .gone) (v .ty) (sw .old) there1 (sw .content)))
-      (safe-need Q s (write-at s (here (sw .root)) hole) (λ z. me.ok (flat (sw .old)) z) (sw .s2) (sw .writes-new)
-      (record {
+      (safe-need Q _ _ _ (sw .writes-new)
+      (safe-ok (record {
         top = removed-entry (sw .old) (v .gone) (v .ty);
         F = sw .F;
         T = sw .old ∷ sw .T;
@@ -101,7 +101,7 @@ module _ (q : Prog) (C : List Entry) (ln : List Level-loan) (held : List Loan) (
             (subst (λ z. Scope (length C) ln (set-gone true g z) d (sw .F)) (sym nm) (sw .names));
         world = sw .world;
         under = sw .under;
-      }))))
+      })))))
     where
       ok1 : (is-free (held ++ all-loans g) (v .name) ≡ true) × (typed t [] (set-gone true g (v .name)) ≡ some r)
       ok1 = only-is (is-free (held ++ all-loans g) (v .name)) (typed t [] (set-gone true g (v .name))) r e
@@ -122,8 +122,7 @@ module _ (q : Prog) (C : List Entry) (ln : List Level-loan) (held : List Loan) (
   as-value : (t : Ty) → v .ty ≡ t → value held g v t ≡ some r
       → Safe Q (me.need s (root-of d x) (λ k. me.need s (read-at s (here k)) (λ z. moves s k z)))
   as-value int t-is e =
-      safe-need Q s (root-of d x) (λ k. me.need s (read-at s (here k)) (λ z. moves s k z)) (pl .root) (pl .named)
-      (by-sh (pl .en .kind) (pl .type) (pl .fine2))
+      safe-need Q _ _ _ (pl .named) (by-sh (pl .en .kind) (pl .type) (pl .fine2))
     where
       ok1 : (readable (held ++ all-loans g) (v .name) ≡ true) × (typed int [] g ≡ some r)
       ok1 = only-is (readable (held ++ all-loans g) (v .name)) (typed int [] g) r e
@@ -132,9 +131,8 @@ module _ (q : Prog) (C : List Entry) (ln : List Level-loan) (held : List Loan) (
       by-sh (own t) su fi =
           let k = typed-int ds (pl .stands .tree) (subst (Typed ds (pl .stands .tree)) (sym (su .0) ∙ t-is)
           (not-gone ds (v .gone) t (pl .stands .tree) there1 (fi .3))) in
-          safe-need Q s (read-at s (here (pl .root))) (λ z. moves s (pl .root) z) (int-v (k .0))
-          (reads s (pl .root) (flat (pl .stands .tree)) 0 (fi .0) ∙ ap {B = Option Value} (λ z. some z) (k .1))
-          (int-after q C ln g d H F T s (k .0) (s .under) r (ok1 .1) (sc .names) w refl)
+          safe-need Q _ _ _ (reads s (pl .root) (flat (pl .stands .tree)) 0 (fi .0) ∙ ap {B = Option Value} (λ z. some z) (k .1))
+          (safe-ok (int-after q C ln g d H F T s (k .0) (s .under) r (ok1 .1) (sc .names) w refl))
       by-sh (borrow true t a ls) su fi = absurd (let k : int ≡ mut t = sym t-is ∙ su in true-false (ap owned k))
       by-sh (borrow false t a ls) su fi = absurd (let k : int ≡ ref t = sym t-is ∙ su in true-false (ap owned k))
       by-sh inert su fi = absurd su
@@ -145,8 +143,7 @@ module _ (q : Prog) (C : List Entry) (ln : List Level-loan) (held : List Loan) (
         | inr k ↦ absurd (let z = k .1 in let z2 : _≡_ {A = ℕ} 0 1 = cc in omega arith)
       ]
   as-value (ref t) t-is e =
-      safe-need Q s (root-of d x) (λ k. me.need s (read-at s (here k)) (λ z. moves s k z)) (pl .root) (pl .named)
-      (by-sh (pl .en .kind) (pl .type) (pl .at-sh) (pl .loans) (pl .fine2))
+      safe-need Q _ _ _ (pl .named) (by-sh (pl .en .kind) (pl .type) (pl .at-sh) (pl .loans) (pl .fine2))
     where
       ok1 : (readable (held ++ all-loans g) (v .name) ≡ true) × (typed (ref t) (v .loans) g ≡ some r)
       ok1 = only-is (readable (held ++ all-loans g) (v .name)) (typed (ref t) (v .loans) g) r e
@@ -158,14 +155,12 @@ module _ (q : Prog) (C : List Entry) (ln : List Level-loan) (held : List Loan) (
       by-sh (borrow false u a ls) su at-sh cov fi =
           let pt = fi .1 .2 in
           let val : Value = ref-v (loc-down (here (pt .root)) (a .path) (pt .whole)) in
-          safe-need Q s (read-at s (here (pl .root))) (λ z. moves s (pl .root) z) val
-          (reads s (pl .root) (fi .1 .0) 0 (fi .1 .1) ∙ ap {B = Option Value} (λ z. some z) (pt .value))
-          (ref-after q C ln g d H F T s false u a ls val (ref t) (v .loans) r (ok1 .1) (sym t-is ∙ su) cov (sc .names)
-          (push-copy ds N T s (pl .level) u a a ls u val at-sh (prefix-self a) (subst (Valid-ref ds N T u a) (pt .value) pt) w))
+          safe-need Q _ _ _ (reads s (pl .root) (fi .1 .0) 0 (fi .1 .1) ∙ ap {B = Option Value} (λ z. some z) (pt .value))
+          (safe-ok (ref-after q C ln g d H F T s false u a ls val (ref t) (v .loans) r (ok1 .1) (sym t-is ∙ su) cov (sc .names)
+          (push-copy ds N T s (pl .level) u a a ls u val at-sh (prefix-self a) (subst (Valid-ref ds N T u a) (pt .value) pt) w)))
       by-sh inert su at-sh cov fi = absurd su
   as-value (mut t) t-is e =
-      safe-need Q s (root-of d x) (λ k. me.need s (read-at s (here k)) (λ z. moves s k z)) (pl .root) (pl .named)
-      (by-sh (pl .en .kind) (pl .type) (pl .at-sh) (pl .fine2))
+      safe-need Q _ _ _ (pl .named) (by-sh (pl .en .kind) (pl .type) (pl .at-sh) (pl .fine2))
     where
       ok1 : (is-free (held ++ all-loans g) (v .name) ≡ true) × (typed (mut t) (loan (v .name) true ∷ []) g ≡ some r)
       ok1 = only-is (is-free (held ++ all-loans g) (v .name)) (typed (mut t) (loan (v .name) true ∷ []) g) r e
@@ -177,16 +172,16 @@ module _ (q : Prog) (C : List Entry) (ln : List Level-loan) (held : List Loan) (
       by-sh (borrow true u a ls) su at-sh fi =
           let pt = fi .1 .2 in
           let val : Value = ref-v (loc-down (here (pt .root)) (a .path) (pt .whole)) in
-          safe-need Q s (read-at s (here (pl .root))) (λ z. moves s (pl .root) z) val
-          (reads s (pl .root) (fi .1 .0) 0 (fi .1 .1) ∙ ap {B = Option Value} (λ z. some z) (pt .value))
-          (ref-after q C ln g d H F T s true u a (one-loan (pl .level) true) val (mut t) (loan (v .name) true ∷ []) r (ok1 .1) (sym t-is ∙ su)
+          safe-need Q _ _ _ (reads s (pl .root) (fi .1 .0) 0 (fi .1 .1) ∙ ap {B = Option Value} (λ z. some z) (pt .value))
+          (safe-ok (ref-after q C ln g d H F T s true u a (one-loan (pl .level) true) val (mut t) (loan (v .name) true ∷ []) r (ok1 .1)
+          (sym t-is ∙ su)
           (subst (λ z. Loans-cover (length C) ln g (loan z true ∷ []) (one-loan (pl .level) true)) (sym nm)
           (one-covered (length C) ln g x (pl .level) true (pl .levelled))) (sc .names)
           (push-loan ds N T s (pl .level) (borrow true u a ls) a a true u val at-sh refl refl (prefix-self a)
           (unobstructed-free (kinds N) (w .borrows .exclusivity) (pl .level) (borrow true u a ls) a at-sh refl refl
           (free-at ds C ln held g d H F T s x (pl .level) sc w (pl .levelled)
           (subst (λ z. is-free (held ++ all-loans g) z ≡ true) nm (ok1 .0))) true a (prefix-self a))
-          (subst (Valid-ref ds N T u a) (pt .value) pt) w))
+          (subst (Valid-ref ds N T u a) (pt .value) pt) w)))
       by-sh inert su at-sh fi = absurd su
 
   -- &x: of what's owned, or of what was lent
@@ -194,8 +189,7 @@ module _ (q : Prog) (C : List Entry) (ln : List Level-loan) (held : List Loan) (
       → only-if (readable (held ++ all-loans g) (v .name)) (typed (ref t) (loan (v .name) false ∷ []) g) ≡ some r
       → Safe Q (me.need s (root-of d x) (λ k. me.need s (read-at s (here k)) (λ z. me.ok (ref-v (place-of k z)) s)))
   share-own t t-is nr nm2 e =
-      safe-need Q s (root-of d x) (λ k. me.need s (read-at s (here k)) (λ z. me.ok (ref-v (place-of k z)) s)) (pl .root) (pl .named)
-      (by-sh (pl .en .kind) (pl .type) (pl .at-sh) (pl .fine2))
+      safe-need Q _ _ _ (pl .named) (by-sh (pl .en .kind) (pl .type) (pl .at-sh) (pl .fine2))
     where
       ok1 : (readable (held ++ all-loans g) (v .name) ≡ true) × (typed (ref t) (loan (v .name) false ∷ []) g ≡ some r)
       ok1 = only-is (readable (held ++ all-loans g) (v .name)) (typed (ref t) (loan (v .name) false ∷ []) g) r e
@@ -208,9 +202,8 @@ module _ (q : Prog) (C : List Entry) (ln : List Level-loan) (held : List Loan) (
       by-sh (borrow true u b ls) su at-sh fi = absurd (nm2 u (sym t-is ∙ su))
       by-sh (borrow false u b ls) su at-sh fi = absurd (true-false (ap is-ref (sym su ∙ t-is) ∙ nr))
       by-sh (own u) su at-sh fi =
-          safe-need Q s (read-at s (here (pl .root))) (λ z. me.ok (ref-v (place-of (pl .root) z)) s) (flat (pl .stands .tree))
-          (reads s (pl .root) (flat (pl .stands .tree)) 0 (fi .0))
-          (subst (λ z. Q (ref-v z) s) (sym (place-flat (pl .root) (pl .stands .tree)))
+          safe-need Q _ _ _ (reads s (pl .root) (flat (pl .stands .tree)) 0 (fi .0))
+          (safe-ok (subst (λ z. Q (ref-v z) s) (sym (place-flat (pl .root) (pl .stands .tree)))
           (ref-after q C ln g d H F T s false u a (one-loan (pl .level) false) (ref-v (here (pl .root))) (ref t) (loan (v .name) false ∷ []) r
           (ok1 .1) (ap ref (sym t-is ∙ su .0)) (subst (λ z. Loans-cover (length C) ln g (loan z false ∷ []) (one-loan (pl .level) false)) (sym nm)
           (one-covered (length C) ln g x (pl .level) false (pl .levelled))) (sc .names)
@@ -227,7 +220,7 @@ module _ (q : Prog) (C : List Entry) (ln : List Level-loan) (held : List Loan) (
             leading = refl;
             typed = not-gone ds (v .gone) u (pl .stands .tree) there1 (fi .3);
             value = refl;
-          }) w)))
+          }) w))))
       by-sh inert su at-sh fi = absurd su
 
   as-shared : (t : Ty) → v .ty ≡ t → shared held g v t ≡ some r
@@ -237,8 +230,7 @@ module _ (q : Prog) (C : List Entry) (ln : List Level-loan) (held : List Loan) (
   as-shared (box t) t-is e = share-own (box t) t-is refl (λ u k. (let z : _≡_ {A = ℕ} 0 1 = cc in omega arith)) e
   as-shared (ref t) t-is e = absurd (no-some e)
   as-shared (mut t) t-is e =
-      safe-need Q s (root-of d x) (λ k. me.need s (read-at s (here k)) (λ z. me.ok (ref-v (place-of k z)) s)) (pl .root) (pl .named)
-      (by-sh (pl .en .kind) (pl .type) (pl .at-sh) (pl .fine2))
+      safe-need Q _ _ _ (pl .named) (by-sh (pl .en .kind) (pl .type) (pl .at-sh) (pl .fine2))
     where
       ok1 : (readable (held ++ all-loans g) (v .name) ≡ true) × (typed (ref t) (loan (v .name) false ∷ []) g ≡ some r)
       ok1 = only-is (readable (held ++ all-loans g) (v .name)) (typed (ref t) (loan (v .name) false ∷ []) g) r e
@@ -252,16 +244,16 @@ module _ (q : Prog) (C : List Entry) (ln : List Level-loan) (held : List Loan) (
           let loc : Loc = loc-down (here (pt .root)) (a .path) (pt .whole) in
           let mu : mut t ≡ mut u = sym t-is ∙ su in
           let tu : t ≡ u = cc in
-          safe-need Q s (read-at s (here (pl .root))) (λ z. me.ok (ref-v (place-of (pl .root) z)) s) (ref-v loc)
-          (reads s (pl .root) (fi .1 .0) 0 (fi .1 .1) ∙ ap {B = Option Value} (λ z. some z) (pt .value))
-          (ref-after q C ln g d H F T s false u a (one-loan (pl .level) false) (ref-v loc) (ref t) (loan (v .name) false ∷ []) r (ok1 .1) (ap ref tu)
+          safe-need Q _ _ _ (reads s (pl .root) (fi .1 .0) 0 (fi .1 .1) ∙ ap {B = Option Value} (λ z. some z) (pt .value))
+          (safe-ok (ref-after q C ln g d H F T s false u a (one-loan (pl .level) false) (ref-v loc) (ref t) (loan (v .name) false ∷ []) r
+          (ok1 .1) (ap ref tu)
           (subst (λ z. Loans-cover (length C) ln g (loan z false ∷ []) (one-loan (pl .level) false)) (sym nm)
           (one-covered (length C) ln g x (pl .level) false (pl .levelled))) (sc .names)
           (push-loan ds N T s (pl .level) (borrow true u a ls) a a false u (ref-v loc) at-sh refl refl (prefix-self a)
           (unobstructed-readable (kinds N) (w .borrows .exclusivity) (pl .level) (borrow true u a ls) a at-sh refl refl
           (readable-at ds C ln held g d H F T s x (pl .level) sc w (pl .levelled)
           (subst (λ z. readable (held ++ all-loans g) z ≡ true) nm (ok1 .0))) a (prefix-self a))
-          (subst (Valid-ref ds N T u a) (pt .value) pt) w))
+          (subst (Valid-ref ds N T u a) (pt .value) pt) w)))
       by-sh inert su at-sh fi = absurd su
 
 pub var-step : (q : Prog) (m : Limits) (u : ℕ) (C : List Entry) (ln : List Level-loan) (held : List Loan) (g : ch.Env) (d : me.Env) (H F : List Entry)

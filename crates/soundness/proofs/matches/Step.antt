@@ -10,7 +10,7 @@ use Rattle.language.specs.Base.{from-option, if-some, Lexeme, only-if}
 use Rattle.language.specs.Syntax.{Ty, int, dat, box, ref, mut, Access, Alts, Arms, Data, Prog, take, view, edit, match-s, give-match, Ctor}
 use Rattle.language.specs.Checks.{Var, Matched, loan, look, is-free, readable, all-loans, outer, bind-all, looks-at, matched, data-of, covers, alt-names, arm-names}
 use Rattle.language.specs.Checks as ch
-use Rattle.language.specs.Meaning.{Value, con-v, State, Limits, Shape, here, root-of, read-at, place-of, shape-of, bodies, tails, by-shape, block, exec, by-alt, shape, roots-in, taken, names-in, parts, find-alt, find-arm}
+use Rattle.language.specs.Meaning.{Value, con-v, State, Limits, Shape, here, root-of, read-at, place-of, bodies, tails, exec, shape, roots-in, parts, find-alt}
 use Rattle.language.specs.Meaning as me
 use Rattle.soundness.specs.Trees.{Tree, int-t, con-t, box-t, hole-t, flat, flats, Typed}
 use Rattle.soundness.specs.Borrows.{Addr, Level-loan, Kind, own, borrow}
@@ -38,20 +38,15 @@ same-ctor x y o e f = some-is (sym e ∙ f)
 pub by-alt-suc : (q : Prog) (m : Limits) (u : ℕ) → ch.accepts q ≡ true → Preserved q m u → By-alt-ok q m (suc u)
 unfolding me.eval
 by-alt-suc q m u o h C ln g g2 d F T s w x v mm as₁ l (shape k vs) th la cv al lk sc wo =
-    safe-need P s (find-alt as₁ k) (λ a. me.need s (taken w s l)
-    (λ t. me.need t (names-in d t (a .names) (parts w l vs)) (λ i. block u m q i d (a .does) (roots-in t (parts w l vs))))) (fa .0) (fa .1)
-    (safe-need P s (taken w s l) (λ t. me.need t (names-in d t (fa .0 .names) (parts w l vs))
-    (λ i. block u m q i d (fa .0 .does) (roots-in t (parts w l vs)))) (lo .t) (lo .takes)
-    (safe-need P (lo .t) (names-in d (lo .t) (fa .0 .names) (parts w l vs)) (λ i. block u m q i d (fa .0 .does) (roots-in (lo .t) (parts w l vs)))
-    (bd .k ++ d) (bd .named)
-    (safe-weaken (λ d2 z. (d2 ≡ d) × After-exec q C ln (outer (mm .env) (ac .behind)) d (t2 .under) d2 z) P
-    (block u m q (bd .k ++ d) d (fa .0 .does) t2)
-    (λ d2 z a. subst (λ y. After-exec q C ln g2 d y d2 z) (bd .under ∙ lo .under)
-    (after-weak q C ln (outer (mm .env) (ac .behind)) g2 d (t2 .under) d2 z (ac .weaker) (a .1)))
-    (h .block-ok C ln (bd .gk) (mm .env) (ac .behind) (bd .k) d (bd .F) (bd .T) t2 (fa .0 .does)
+    safe-need P _ _ _ (fa .1)
+    (safe-need P _ _ _ (lo .takes)
+    (safe-need P _ _ _ (bd .named)
+    (safe-weaken P (h .block-ok C ln (bd .gk) (mm .env) (ac .behind) (bd .k) d (bd .F) (bd .T) t2 (fa .0 .does)
     (subst (λ y. ch.stmts q y (fa .0 .does) ≡ some (ac .behind)) (bd .static) (ac .runs)) (bd .lens)
     (record { names = subst (λ y. Scope (length C) ln y (bd .k ++ d) (bd .F)) (bd .static) (bd .names); above = λ y i. absurd i; under = sc .under })
-    (bd .world)))))
+    (bd .world))
+    (λ d2 z a. subst (λ y. After-exec q C ln g2 d y d2 z) (bd .under ∙ lo .under)
+    (after-weak q C ln (outer (mm .env) (ac .behind)) g2 d (t2 .under) d2 z (ac .weaker) (a .1))))))
   where
     P : me.Env → State → Type 0
     P = After-exec q C ln g2 d (s .under)
@@ -78,12 +73,9 @@ by-alt-suc q m u o h C ln g g2 d F T s w x v mm as₁ l (shape k vs) th la cv al
 pub by-shape-suc : (q : Prog) (m : Limits) (u : ℕ) → ch.accepts q ≡ true → Preserved q m u → By-shape-ok q m (suc u)
 unfolding me.eval
 by-shape-suc q m u o h C ln g d F T s qs t w x v mm as₁ l (shape k vs) th la cv al lp lk sc wo =
-    safe-need P s (find-arm as₁ k) (λ a. me.need s (taken w s l)
-    (λ z. me.need z (names-in d z (a .names) (parts w l vs)) (λ i. bodies u m q i d (a .does) (roots-in z (parts w l vs))))) (ca .found) (ca .is)
-    (safe-need P s (taken w s l) (λ z. me.need z (names-in d z (ca .found .names) (parts w l vs))
-    (λ i. bodies u m q i d (ca .found .does) (roots-in z (parts w l vs)))) (lo .t) (lo .takes)
-    (safe-need P (lo .t) (names-in d (lo .t) (ca .found .names) (parts w l vs))
-    (λ i. bodies u m q i d (ca .found .does) (roots-in (lo .t) (parts w l vs))) (bd .k ++ d) (bd .named)
+    safe-need P _ _ _ (ca .is)
+    (safe-need P _ _ _ (lo .takes)
+    (safe-need P _ _ _ (bd .named)
     (subst (λ y. Safe (After-give q C ln d t y) (bodies u m q (bd .k ++ d) d (ca .found .does) t2)) (bd .under ∙ lo .under)
     (h .bodies-ok C ln (ca .bound) (bd .k ++ d) (bd .k) d (bd .F) (bd .T) t2 qs t (ca .found .does) (ca .does) lent2 refl
     (record { names = bd .names; above = λ y i. absurd i; under = sc .under }) (bd .world)))))
@@ -231,13 +223,10 @@ match-step q m u h C ln g g2 d F T s w x as₁ e sc wo =
     let lk = si .3 in
     let P : me.Env → State → Type 0 = After-exec q C ln g2 d (s .under) in
     let l = place-of (si .0) (si .1) in
-    safe-need P s (root-of d x) (λ i. me.need s (read-at s (here i))
-    (λ a. me.need s (read-at s (place-of i a)) (λ b1. me.need s (shape-of b1) (λ c1. by-alt u m q d w (place-of i a) as₁ c1 s)))) (si .0) (si .4)
-    (safe-need P s (read-at s (here (si .0)))
-    (λ a. me.need s (read-at s (place-of (si .0) a)) (λ b1. me.need s (shape-of b1) (λ c1. by-alt u m q d w (place-of (si .0) a) as₁ c1 s)))
-    (si .1) (si .5)
-    (safe-need P s (read-at s l) (λ b1. me.need s (shape-of b1) (λ c1. by-alt u m q d w l as₁ c1 s)) (lk .seen) (lk .sees)
-    (safe-need P s (shape-of (lk .seen)) (λ c1. by-alt u m q d w l as₁ c1 s) (si .2) (lk .shaped)
+    safe-need P _ _ _ (si .4)
+    (safe-need P _ _ _ (si .5)
+    (safe-need P _ _ _ (lk .sees)
+    (safe-need P _ _ _ (lk .shaped)
     (h .by-alt-ok C ln g g2 d F T s w x v mm as₁ l (si .2) (y .1) (z .1) (r .0) (r .1) lk sc wo))))
 
 -- the case match of tails
@@ -259,12 +248,7 @@ give-match-step q m u h C ln g d F T s qs t w x as₁ e lp sc wo =
     let lk = si .3 in
     let P : Value → State → Type 0 = After-give q C ln d t (s .under) in
     let l = place-of (si .0) (si .1) in
-    safe-need P s (root-of d x) (λ i. me.need s (read-at s (here i))
-    (λ a. me.need s (read-at s (place-of i a)) (λ b1. me.need s (shape-of b1) (λ c1. by-shape u m q d w (place-of i a) as₁ c1 s))))
-    (si .0) (si .4)
-    (safe-need P s (read-at s (here (si .0)))
-    (λ a. me.need s (read-at s (place-of (si .0) a)) (λ b1. me.need s (shape-of b1) (λ c1. by-shape u m q d w (place-of (si .0) a) as₁ c1 s)))
-    (si .1) (si .5)
-    (safe-need P s (read-at s l) (λ b1. me.need s (shape-of b1) (λ c1. by-shape u m q d w l as₁ c1 s)) (lk .seen) (lk .sees)
-    (safe-need P s (shape-of (lk .seen)) (λ c1. by-shape u m q d w l as₁ c1 s) (si .2) (lk .shaped)
-    (h .by-shape-ok C ln g d F T s qs t w x v mm as₁ l (si .2) (y .1) (z .1) r0 r1 lp lk sc wo))))
+    safe-need P _ _ _ (si .4)
+    (safe-need P _ _ _ (si .5)
+    (safe-need P _ _ _ (lk .sees)
+    (safe-need P _ _ _ (lk .shaped) (h .by-shape-ok C ln g d F T s qs t w x v mm as₁ l (si .2) (y .1) (z .1) r0 r1 lp lk sc wo))))

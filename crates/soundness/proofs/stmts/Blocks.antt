@@ -8,12 +8,12 @@ use lib.ListN.{length, length-append}
 use Rattle.language.specs.Syntax.{Prog, nil-s, cons-s}
 use Rattle.language.specs.Checks.{outer}
 use Rattle.language.specs.Checks as ch
-use Rattle.language.specs.Meaning.{State, Limits, execs, exec, ends, newer}
+use Rattle.language.specs.Meaning.{State, Limits, ends, newer}
 use Rattle.language.specs.Meaning as me
 use Rattle.soundness.specs.Borrows.{Kind, own, borrow, inert}
 use Rattle.soundness.specs.Invariant.{Entry, kinds, Invariant}
 use Rattle.soundness.specs.Frames.{Scope, No-borrows}
-use Rattle.soundness.specs.Preserved.{Safe, After-exec, After-end, Execs-ok, Block-ok, Preserved}
+use Rattle.soundness.specs.Preserved.{safe-ok, Safe, After-exec, Execs-ok, Block-ok, Preserved}
 use Rattle.soundness.proofs.Basics.{some-is, if-some-is}
 use Rattle.soundness.proofs.invariant.Top.{invariant-same}
 use Rattle.soundness.proofs.statics.Exprs.{Env-like, like-length}
@@ -40,9 +40,7 @@ suffix-is (x ∷ K) g (y ∷ K2) g2 e l = let t : K ++ g ≡ K2 ++ g2 = cc in su
 pub block-suc : (q : Prog) (m : Limits) (u : ℕ) → ch.accepts q ≡ true → Preserved q m u → Block-ok q m (suc u)
 unfolding me.eval
 block-suc q m u o hyp C ln gk gh g2 k h F T s x e le sc w =
-    safe-then (After-exec q C ln g2 (k ++ h) (s .under)) Post (execs u m q (k ++ h) x s)
-    (λ i t. me.then (ends u m q (newer i h) t) (λ j z. me.ok h z))
-    (hyp .execs-ok C ln (gk ++ gh) g2 (k ++ h) F T s x e sc w) behind
+    safe-then Post (hyp .execs-ok C ln (gk ++ gh) g2 (k ++ h) F T s x e sc w) behind
   where
     Post : me.Env → State → Type 0
     Post d2 t = (d2 ≡ h) × After-exec q C ln (outer gh g2) h (s .under) d2 t
@@ -50,10 +48,9 @@ block-suc q m u o hyp C ln gk gh g2 k h F T s x e le sc w =
     behind : (i : me.Env) (t : State) → After-exec q C ln g2 (k ++ h) (s .under) i t
         → Safe Post (me.then (ends u m q (newer i h) t) (λ j z. me.ok h z))
     behind i t a = subst (λ z. Safe Post (me.then (ends u m q z t) (λ j y. me.ok h y))) (sym new-is)
-        (safe-then (λ j z. After-end q (pa .F2 ++ C) (t .under) z) Post (ends u m q (a .newer ++ k) t) (λ j z. me.ok h z)
-        (hyp .ends-ok (pa .F1) (pa .F2 ++ C) (a .T) t (a .newer ++ k) (pa .named)
+        (safe-then Post (hyp .ends-ok (pa .F1) (pa .F2 ++ C) (a .T) t (a .newer ++ k) (pa .named)
         (subst (λ z. Invariant (q .datas) z (a .T) t) (ap (λ z. z ++ C) (pa .F-is) ∙ append-assoc (pa .F1) (pa .F2) C) (a .world)))
-        (λ j z b. (
+        (λ j z b. safe-ok (
           refl,
           record {
             newer = [];
@@ -87,15 +84,24 @@ block-suc q m u o hyp C ln gk gh g2 k h F T s x e le sc w =
 pub execs-suc : (q : Prog) (m : Limits) (u : ℕ) → ch.accepts q ≡ true → Preserved q m u → Execs-ok q m (suc u)
 unfolding me.eval
 execs-suc q m u o h C ln g g2 d F T s nil-s e sc w =
-    record { newer = []; grown = refl; F = F; T = T; names = subst (λ z. Scope (length C) ln z d F) (some-is e) (sc .names); world = w; under = refl }
+    safe-ok (record {
+      newer = [];
+      grown = refl;
+      F = F;
+      T = T;
+      names = subst (λ z. Scope (length C) ln z d F) (some-is e) (sc .names);
+      world = w;
+      under = refl;
+    })
 execs-suc q m u o h C ln g g2 d F T s (cons-s x ss) e sc w =
     let st = if-some-is (ch.stmt q g x) (λ k. ch.stmts q k ss) g2 e in
     let s1 : State = record { roots = s .roots; classes = s .classes; under = s .under; turns = suc (s .turns); ins = s .ins; outs = s .outs } in
-    safe-then (After-exec q C ln (st .0) d (s .under)) (After-exec q C ln g2 d (s .under)) (me.turn m s (λ t. exec u m q d x t))
-    (λ k t. execs u m q k ss t)
-    (safe-turn (After-exec q C ln (st .0) d (s .under)) m s (λ t. exec u m q d x t)
+    safe-then (After-exec q C ln g2 d (s .under))
+    (safe-turn (After-exec q C ln (st .0) d (s .under)) _ _ _
     (h .exec-ok C ln g (st .0) d F T s1 x (st .1) sc (invariant-same (q .datas) (F ++ C) T s s1 refl refl w)))
-    (λ d2 t a. safe-weaken (After-exec q C ln g2 d2 (t .under)) (After-exec q C ln g2 d (s .under)) (execs u m q d2 ss t)
+    (λ d2 t a. safe-weaken (After-exec q C ln g2 d (s .under))
+    (h .execs-ok C ln (st .0) g2 d2 (a .F) (a .T) t ss (st .2)
+    (record { names = a .names; above = λ l i. absurd i; under = sc .under }) (a .world))
     (λ d3 y b. record {
       newer = b .newer ++ a .newer;
       grown = b .grown ∙ ap (λ z. b .newer ++ z) (a .grown) ∙ sym
@@ -105,5 +111,4 @@ execs-suc q m u o h C ln g g2 d F T s (cons-s x ss) e sc w =
       names = b .names;
       world = b .world;
       under = b .under ∙ a .under;
-    })
-    (h .execs-ok C ln (st .0) g2 d2 (a .F) (a .T) t ss (st .2) (record { names = a .names; above = λ l i. absurd i; under = sc .under }) (a .world)))
+    }))

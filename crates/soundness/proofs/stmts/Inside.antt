@@ -16,7 +16,7 @@ use Rattle.soundness.specs.Trees.{Tree, box-t, hole-t, flat, box-step, Path, c
 use Rattle.soundness.specs.Borrows.{Addr, Level-loan, Kind, own, borrow, inert, at-level, loans-of, Prefix}
 use Rattle.soundness.specs.Invariant.{rooted, Entry, kinds, Holds, Valid-ref, Entry-ok, Invariant}
 use Rattle.soundness.specs.Frames.{Loans-cover, Kind-fits, Scope, Frame}
-use Rattle.soundness.specs.Preserved.{Safe, After-exec}
+use Rattle.soundness.specs.Preserved.{safe-ok, Safe, After-exec}
 use Rattle.soundness.proofs.Basics.{no-some, some-is, if-some-is, only-is, true-false}
 use Rattle.soundness.proofs.memory.Paths.{loc-down-step}
 use Rattle.soundness.proofs.loans.Stack.{unobstructed-free}
@@ -133,11 +133,12 @@ inside-step q m u C ln g g2 d F T s x y e sc w = by-type (v .ty) (pl .type) (a2 
         → some (enter g x tb ms) ≡ some g2 → (ib : In-box (q .datas) N T s tu a val)
         → Invariant (q .datas) (borrow-entry al tu (in-addr a) L (ref-v (here (ib .box1))) ∷ N) (hole-t ∷ T) s → Safe P (me.need s (root-of d y) f0)
     finish al tu a ls tb L ms val ce su cov g-is ib w2 =
-        safe-need P s (root-of d y) f0 (pl .root) (pl .named)
-        (safe-need P s (read-at s (here (pl .root))) f1 val (reads s (pl .root) val 0 ce)
-        (safe-need P s (loc-of val) f2 (ib .loc) (ib .place)
-        (safe-need P s (read-at s (ib .loc)) f3 (ib .reads-box .0) (ib .reads-box .1)
-        (safe-need P s (box-of (ib .reads-box .0)) f4 (ib .box1) (ib .reads-box .2) (record {
+        safe-need P _ _ _ (pl .named)
+        (safe-need P _ _ _ (reads s (pl .root) val 0 ce)
+        (safe-need P _ _ _ (ib .place)
+        (safe-need P _ _ _ (ib .reads-box .1)
+        (safe-need P _ _ _ (ib .reads-box .2)
+        (safe-ok (record {
           newer = record { name = x; root = length (s .roots) } ∷ [];
           grown = refl;
           F = with-root (borrow-entry al tu (in-addr a) L (ref-v (here (ib .box1)))) (length (s .roots)) ∷ F;
@@ -150,7 +151,7 @@ inside-step q m u C ln g g2 d F T s x y e sc w = by-type (v .ty) (pl .type) (a2 
           world =
               root-mid (q .datas) [] (borrow-entry al tu (in-addr a) L (ref-v (here (ib .box1)))) (ref-v (here (ib .box1))) N (hole-t ∷ T) s refl w2;
           under = refl;
-        })))))
+        }))))))
 
     pre : (a : Addr) → Prefix a (in-addr a)
     pre a = (refl, (box-step ∷ [], refl))

@@ -11,13 +11,13 @@ use Rattle.language.specs.Base.{choose, from-option, if-some, at-place, set-at,
 use Rattle.language.specs.Syntax.{Ty, int, dat, box, ref, mut, Data, Prog, open-s}
 use Rattle.language.specs.Checks.{Var, owned, look, fresh, set-gone, enter, is-free, all-loans, boxed-in}
 use Rattle.language.specs.Checks as ch
-use Rattle.language.specs.Meaning.{Value, Root, State, Limits, Res, here, root-of, read-at, exec, hole, with-roots, adds-root, ends-box, write-at, box-of}
+use Rattle.language.specs.Meaning.{Value, Root, State, Limits, Res, here, read-at, exec, hole, with-roots, adds-root, ends-box, write-at, box-of}
 use Rattle.language.specs.Meaning as me
 use Rattle.soundness.specs.Trees.{Tree, int-t, con-t, box-t, hole-t, flat, Stored, Typed}
 use Rattle.soundness.specs.Borrows.{Level-loan, Kind, own, borrow, inert}
 use Rattle.soundness.specs.Invariant.{rooted, in-flight, Entry, kinds, Content, Idle, place-sum, Invariant}
 use Rattle.soundness.specs.Frames.{Kind-fits, Scope, Frame, owned-entry}
-use Rattle.soundness.specs.Preserved.{Safe, After-exec}
+use Rattle.soundness.specs.Preserved.{safe-ok, Safe, After-exec}
 use Rattle.soundness.proofs.Basics.{no-some, some-is, if-some-is, only-is, true-false, and-left, and-right}
 use Rattle.soundness.proofs.loans.Stack.{push-own, push-inert, pop-borrows}
 use Rattle.soundness.proofs.invariant.Top.{typed-owned, words-pos, with-root, shell, end-box-top, reads, ended-under}
@@ -118,12 +118,12 @@ pub open-step : (q : Prog) (m : Limits) (u : ℕ) (C : List Entry) (ln : List Le
     → Safe (After-exec q C ln g2 d (s .under)) (exec (suc u) m q d (open-s x y) s)
 unfolding me.eval
 open-step q m u C ln g g2 d F T s x y e sc w =
-    safe-need P s (root-of d y) f1 (sw .root) (sw .named)
-    (safe-need P s (read-at s (here (sw .root))) (f2 (sw .root)) (flat (sw .old)) (sw .reads-old)
-    (safe-need P s (box-of (flat (sw .old))) (f3 (sw .root)) i (ap (λ z. box-of (flat z)) (bo .3))
-    (safe-need P s (read-at s (here i)) (f4 (sw .root) i) (flat cont)
-    (box-reads (q .datas) s s2 (sw .root) i wd (flat (sw .old)) cont tb (sw .reads-old) (sw .writes-new) (bo .5) (st .0))
-    (safe-need P s (write-at s (here (sw .root)) hole) (f5 i (flat cont)) s2 (sw .writes-new) after))))
+    safe-need P _ _ _ (sw .named)
+    (safe-need P _ _ _ (sw .reads-old)
+    (safe-need P _ _ _ (ap (λ z. box-of (flat z)) (bo .3))
+    (safe-need P _ _ _ (box-reads (q .datas) s s2 (sw .root) i wd (flat (sw .old)) cont tb (sw .reads-old) (sw .writes-new)
+    (bo .5) (st .0))
+    (safe-need P _ _ _ (sw .writes-new) (safe-ok after)))))
   where
     P : me.Env → State → Type 0
     P = After-exec q C ln g2 d (s .under)

@@ -10,13 +10,13 @@ use Rattle.language.specs.Base.{choose, if-some, Lexeme, only-if}
 use Rattle.language.specs.Syntax.{int, Expr, Stmts, Prog, bind, put-s, cond, loop}
 use Rattle.language.specs.Checks.{same-ty, fresh, enter, outer, both, no-more-gone}
 use Rattle.language.specs.Checks as ch
-use Rattle.language.specs.Meaning.{State, Limits, Res, eval, block, exec, adds-root, num-of, shows}
+use Rattle.language.specs.Meaning.{State, Limits, Res, eval, block, exec, num-of, shows}
 use Rattle.language.specs.Meaning as me
 use Rattle.soundness.specs.Trees.{Tree}
 use Rattle.soundness.specs.Borrows.{Level-loan}
 use Rattle.soundness.specs.Invariant.{Entry, Invariant}
 use Rattle.soundness.specs.Frames.{Scope, Value-entry, Frame}
-use Rattle.soundness.specs.Preserved.{Safe, After-eval, After-exec, Preserved}
+use Rattle.soundness.specs.Preserved.{safe-ok, Safe, After-exec, Preserved}
 use Rattle.soundness.proofs.Basics.{some-is, if-some-is, only-is}
 use Rattle.soundness.proofs.invariant.Top.{invariant-same, with-root, pop-int}
 use Rattle.soundness.proofs.invariant.Rooting.{root-mid}
@@ -38,10 +38,8 @@ bind-step q m u h C ln g g2 d F T s x e1 e sc w =
     let y = if-some-is (ch.expr q [] g e1) (λ r. only-if (fresh (r .env) x) (some (enter (r .env) x (r .ty) (r .loans)))) g2 e in
     let r = y .0 in
     let z = only-is (fresh (r .env) x) (some (enter (r .env) x (r .ty) (r .loans))) g2 (y .2) in
-    safe-then (After-eval q C ln d [] r (s .under)) (After-exec q C ln g2 d (s .under)) (eval u m q d e1 s)
-    (λ v t. me.ok (record { name = x; root = length (t .roots) } ∷ d) (adds-root t v 0))
-    (h .eval-ok C ln [] g d [] F T s e1 r (y .1) sc w)
-    (λ v t a. record {
+    safe-then (After-exec q C ln g2 d (s .under)) (h .eval-ok C ln [] g d [] F T s e1 r (y .1) sc w)
+    (λ v t a. safe-ok (record {
       newer = record { name = x; root = length (t .roots) } ∷ [];
       grown = refl;
       F = with-root (a .top) (length (t .roots)) ∷ a .F;
@@ -62,7 +60,7 @@ bind-step q m u h C ln g g2 d F T s x e1 e sc w =
           );
       world = root-mid (q .datas) [] (a .top) v (a .F ++ C) (a .T) t (a .flight .place) (a .world);
       under = a .under;
-    })
+    }))
 
 -- an int is computed, then what's to be done with it
 pub int-then : (q : Prog) (m : Limits) (u : ℕ) → Preserved q m u
@@ -72,12 +70,11 @@ pub int-then : (q : Prog) (m : Limits) (u : ℕ) → Preserved q m u
     → ((k : ℕ) (F2 : List Entry) (T2 : List Tree) (t : State) → t .under ≡ s .under → Frame C ln [] (r .env) d [] F2
     → Invariant (q .datas) (F2 ++ C) T2 t → Safe Q (f t k)) → Safe Q (me.then (eval u m q d e1 s) (λ v t. me.need t (num-of v) (f t)))
 int-then q m u h {A} Q f C ln g d F T s e1 r e ty sc w go =
-    safe-then (After-eval q C ln d [] r (s .under)) Q (eval u m q d e1 s) (λ v t. me.need t (num-of v) (f t))
-    (h .eval-ok C ln [] g d [] F T s e1 r e sc w)
+    safe-then Q (h .eval-ok C ln [] g d [] F T s e1 r e sc w)
     (λ v t a. (let fl : Value-entry v int (a .top) = subst (λ z. Value-entry v z (a .top)) (same-ty-is (r .ty) int ty) (a .flight) in
     let nm = top-int (q .datas) (a .top) (a .F ++ C) (a .T) t v fl (a .world) in
     let po = pop-int (q .datas) (a .top) (a .F ++ C) (a .T) t v fl (a .world) in
-    safe-need Q t (num-of v) (f t) (nm .0) (nm .2)
+    safe-need Q _ _ _ (nm .2)
     (go (nm .0) (a .F) (po .0) t (a .under) (record { names = a .names; above = λ l i. absurd i; under = sc .under }) (po .1))))
 
 -- print e
@@ -89,7 +86,7 @@ unfolding me.eval
 show-step q m u h C ln g g2 d F T s e1 e sc w =
     let y = as-int-is (ch.expr q [] g e1) (λ k. some k) g2 e in
     int-then q m u h (After-exec q C ln g2 d (s .under)) (λ t k. me.ok d (shows t k)) C ln g d F T s e1 (y .0) (y .1) (y .2) sc w
-    (λ k F2 T2 t un sc2 w2. record {
+    (λ k F2 T2 t un sc2 w2. safe-ok (record {
       newer = [];
       grown = refl;
       F = F2;
@@ -98,7 +95,7 @@ show-step q m u h C ln g g2 d F T s e1 e sc w =
           (sc2 .names);
       world = invariant-same (q .datas) (F2 ++ C) T2 t (shows t k) refl refl w2;
       under = un;
-    })
+    }))
 
 -- a block of the frame's own names
 own-block : (q : Prog) (m : Limits) (u : ℕ) → Preserved q m u
@@ -106,9 +103,8 @@ own-block : (q : Prog) (m : Limits) (u : ℕ) → Preserved q m u
     → ch.stmts q g x ≡ some i → Weaker (outer g i) g2 → s .under ≡ k → Frame C ln [] g d [] F → Invariant (q .datas) (F ++ C) T s
     → Safe (After-exec q C ln g2 d k) (block u m q d d x s)
 own-block q m u h C ln g i g2 d F T s x k e wk un sc w =
-    safe-weaken (λ d2 t. (d2 ≡ d) × After-exec q C ln (outer g i) d (s .under) d2 t) (After-exec q C ln g2 d k) (block u m q d d x s)
+    safe-weaken (After-exec q C ln g2 d k) (h .block-ok C ln [] g i [] d F T s x e refl sc w)
     (λ d2 t a. subst (λ z. After-exec q C ln g2 d z d2 t) un (after-weak q C ln (outer g i) g2 d (s .under) d2 t wk (a .1)))
-    (h .block-ok C ln [] g i [] d F T s x e refl sc w)
 
 -- if e
 pub cond-step : (q : Prog) (m : Limits) (u : ℕ) → Preserved q m u
@@ -155,8 +151,8 @@ loop-step q m u h C ln g g2 d F T s e1 f1 e sc w =
     (λ k F2 T2 t un sc2 w2. (let di = scope-distinct (length C) ln gr d F2 (sc2 .names) in
     let l1 = outer-like gr (y2 .0) (stmts-grows q gr f1 (y2 .0) di (y2 .1)) in
     let wk = not-more-gone g (outer gr (y2 .0)) (like-then g gr (outer gr (y2 .0)) lk l1) (like-distinct gr (outer gr (y2 .0)) l1 di) (z .0) in
-    safe-choose P (eqb k 0) (me.ok d t) (me.then (block u m q d d f1 t) again)
-    (λ yes1. record {
+    safe-choose P (eqb k 0)
+    (λ yes1. safe-ok (record {
       newer = [];
       grown = refl;
       F = F2;
@@ -164,9 +160,8 @@ loop-step q m u h C ln g g2 d F T s e1 f1 e sc w =
       names = subst (λ j. Scope (length C) ln j d F2) (some-is (z .1)) (sc2 .names);
       world = w2;
       under = un;
-    })
-    (λ no1. safe-then (λ d2 t2. (d2 ≡ d) × After-exec q C ln (outer gr (y2 .0)) d (t .under) d2 t2) P (block u m q d d f1 t) again
-    (h .block-ok C ln [] gr (y2 .0) [] d F2 T2 t f1 (y2 .1) refl sc2 w2)
+    }))
+    (λ no1. safe-then P (h .block-ok C ln [] gr (y2 .0) [] d F2 T2 t f1 (y2 .1) refl sc2 w2)
     (λ i t2 a. (let b = after-weak q C ln (outer gr (y2 .0)) g d (t .under) i t2 wk (a .1) in
     let t3 : State = record {
       roots = t2 .roots;
@@ -176,8 +171,7 @@ loop-step q m u h C ln g g2 d F T s e1 f1 e sc w =
       ins = t2 .ins;
       outs = t2 .outs;
     } in
-    safe-turn P m t2 (λ t4. exec u m q d (loop e1 f1) t4)
-    (subst (λ j. Safe (After-exec q C ln g2 d j) (exec u m q d (loop e1 f1) t3)) (b .under ∙ un)
+    safe-turn P _ _ _ (subst (λ j. Safe (After-exec q C ln g2 d j) (exec u m q d (loop e1 f1) t3)) (b .under ∙ un)
     (h .exec-ok C ln g g2 d (b .F) (b .T) t3 (loop e1 f1) e
     (record { names = subst (λ j. Scope (length C) ln g j (b .F)) (a .0) (b .names); above = λ l j. absurd j; under = sc .under })
     (invariant-same (q .datas) (b .F ++ C) (b .T) t2 t3 refl refl (b .world)))))))))

@@ -11,13 +11,13 @@ use Rattle.language.specs.Base.{if-some, Lexeme, only-if}
 use Rattle.language.specs.Syntax.{Ty, int, dat, box, ref, mut, Expr, Data, Prog, assign, store}
 use Rattle.language.specs.Checks.{same-ty, owned, look, set-gone, is-free, all-loans, stores}
 use Rattle.language.specs.Checks as ch
-use Rattle.language.specs.Meaning.{Loc, Value, State, Limits, Res, here, root-of, read-at, eval, exec, drops, ref-v, write-at, loc-of}
+use Rattle.language.specs.Meaning.{Loc, Value, State, Limits, Res, here, read-at, exec, drops, ref-v, write-at, loc-of}
 use Rattle.language.specs.Meaning as me
 use Rattle.soundness.specs.Trees.{Tree, int-t, con-t, box-t, hole-t, flat, Stored, Typed, field-step, box-step, Path, subtree, replace, loc-down}
 use Rattle.soundness.specs.Borrows.{Addr, Level-loan, Kind, own, borrow, inert, at-level, Well-borrowed, Lent}
 use Rattle.soundness.specs.Invariant.{rooted, in-flight, Entry, kinds, Holds, Content, Valid-ref, Entry-ok, Entries-ok, Invariant}
 use Rattle.soundness.specs.Frames.{Kind-fits, Scope, Value-entry, Frame}
-use Rattle.soundness.specs.Preserved.{Safe, After-eval, After-exec, After-end, Preserved}
+use Rattle.soundness.specs.Preserved.{safe-ok, Safe, After-exec, Preserved}
 use Rattle.soundness.proofs.Basics.{no-some, some-is, if-some-is, only-is, true-false, and-left, and-right}
 use Rattle.soundness.proofs.memory.Typing.{typed-replace, subtree-replace}
 use Rattle.soundness.proofs.loans.Stack.{none-below, pop-borrows}
@@ -37,9 +37,8 @@ drop-old : (q : Prog) (m : Limits) (u : ℕ) → Preserved q m u
     → e .at ≡ in-flight v → t .under ≡ k → Scope (length C) ln g2 d F → Invariant (q .datas) (e ∷ (F ++ C)) T t
     → Safe (After-exec q C ln g2 d k) (me.then (drops u m q v t) (λ j y. me.ok d y))
 drop-old q m u h C ln g2 d F T t k e v e-at un mt w =
-    safe-then (λ j y. After-end q (F ++ C) (t .under) y) (After-exec q C ln g2 d k) (drops u m q v t) (λ j y. me.ok d y)
-    (h .drops-ok e (F ++ C) T t v e-at w)
-    (λ j y a. record { newer = []; grown = refl; F = F; T = a .T; names = mt; world = a .world; under = a .under ∙ un })
+    safe-then (After-exec q C ln g2 d k) (h .drops-ok e (F ++ C) T t v e-at w)
+    (λ j y a. safe-ok (record { newer = []; grown = refl; F = F; T = a .T; names = mt; world = a .world; under = a .under ∙ un }))
 
 -- x = e
 pub assign-step : (q : Prog) (m : Limits) (u : ℕ) → Preserved q m u
@@ -60,9 +59,7 @@ assign-step q m u h C ln g g2 d F T s x e1 e sc w =
     let P = After-exec q C ln g2 d (s .under) in
     let at-old : Value → State → ℕ → Value → Res me.Env = λ v t k old. me.need t (write-at t (here k) v)
     (λ t2. me.then (drops u m q old t2) (λ j t3. me.ok d t3)) in
-    safe-then (After-eval q C ln d [] r (s .under)) P (eval u m q d e1 s)
-    (λ v t. me.need t (root-of d x) (λ k. me.need t (read-at t (here k)) (at-old v t k)))
-    (h .eval-ok C ln [] g d [] F T s e1 r (y .1) sc w)
+    safe-then P (h .eval-ok C ln [] g d [] F T s e1 r (y .1) sc w)
     (λ v t a. (let fl : Value-entry v (vx .ty) (a .top) = subst (λ k. Value-entry v k (a .top))
     (same-ty-is (r .ty) (vx .ty) (and-left (same-ty (r .ty) (vx .ty)) (is-free (all-loans (r .env)) x) z2)) (a .flight) in
     let o = owned-top (q .datas) (a .top) (a .F ++ C) (a .T) t v (vx .ty) ow fl (a .world) in
@@ -70,11 +67,11 @@ assign-step q m u h C ln g g2 d F T s x e1 e sc w =
     (record { names = a .names; above = λ l i. absurd i; under = sc .under }) (y2 .1) ow
     (and-right (same-ty (r .ty) (vx .ty)) (is-free (all-loans (r .env)) x) z2) (fl .place ∙ ap in-flight (o .value)) (o .stored) (inl (o .typed))
     (subst (λ k. Invariant (q .datas) (a .top ∷ (a .F ++ C)) k t) (o .trees) (a .world)) in
-    safe-need P t (root-of d x) (λ k. me.need t (read-at t (here k)) (at-old v t k)) (sw .root) (sw .named)
-    (safe-need P t (read-at t (here (sw .root))) (at-old v t (sw .root)) (flat (sw .old)) (sw .reads-old)
-    (safe-need P t (write-at t (here (sw .root)) v) (λ t2. me.then (drops u m q (flat (sw .old)) t2) (λ j t3. me.ok d t3)) (sw .s2)
-    (ap (write-at t (here (sw .root))) (o .value) ∙ sw .writes-new)
-    (drop-old q m u h C ln g2 d (sw .F) (sw .old ∷ sw .T) (sw .s2) (s .under) (removed-entry (sw .old) (vx .gone) (vx .ty)) (flat (sw .old)) refl
+    safe-need P _ _ _ (sw .named)
+    (safe-need P _ _ _ (sw .reads-old)
+    (safe-need P _ _ _ (ap (write-at t (here (sw .root))) (o .value) ∙ sw .writes-new)
+    (drop-old q m u h C ln g2 d (sw .F) (sw .old ∷ sw .T) (sw .s2) (s .under) (removed-entry (sw .old) (vx .gone) (vx .ty))
+    (flat (sw .old)) refl
     (sw .under ∙ a .under) (subst (λ k. Scope (length C) ln k d (sw .F)) (some-is (z .1)) (sw .names)) (sw .world))))))
 
 -- a value on top goes in where a mut points that's free
@@ -269,8 +266,7 @@ store-step q m u h C ln g g2 d F T s x e1 e sc w =
     let f3 : Value → State → Loc → Res me.Env = λ v t l. me.need t (if-some (read-at t l) me.there) (f4 v t l) in
     let f2 : Value → State → Value → Res me.Env = λ v t k. me.need t (loc-of k) (f3 v t) in
     let f1 : Value → State → ℕ → Res me.Env = λ v t k. me.need t (read-at t (here k)) (f2 v t) in
-    safe-then (After-eval q C ln d [] r (s .under)) P (eval u m q d e1 s) (λ v t. me.need t (root-of d x) (f1 v t))
-    (h .eval-ok C ln [] g d [] F T s e1 r (y .1) sc w)
+    safe-then P (h .eval-ok C ln [] g d [] F T s e1 r (y .1) sc w)
     (λ v t a. (let fl : Value-entry v tu (a .top) = subst (λ k. Value-entry v k (a .top)) (si .3) (a .flight) in
     let o = owned-top (q .datas) (a .top) (a .F ++ C) (a .T) t v tu (si .2) fl (a .world) in
     let w2 : Invariant (q .datas) (a .top ∷ (a .F ++ C)) (o .tree ∷ o .rest) t = subst (λ k. Invariant (q .datas) (a .top ∷ (a .F ++ C)) k t)
@@ -283,12 +279,10 @@ store-step q m u h C ln g g2 d F T s x e1 e sc w =
     (en .levelled) (free-not-among (all-loans (r .env)) x (si .4)) in
     let pu = put-in (q .datas) (a .top) (a .F ++ C) (o .tree) (o .rest) t tu (mu .addr) (mu .ls) (mu .val) (en .level)
     (fl .place ∙ ap in-flight (o .value)) (o .stored) (o .typed) (si .2) (mu .shaped) free (mu .points) w2 in
-    safe-need P t (root-of d x) (f1 v t) (en .root) (en .named)
-    (safe-need P t (read-at t (here (en .root))) (f2 v t) (mu .val) (mu .reads-it)
-    (safe-need P t (loc-of (mu .val)) (f3 v t) (pu .loc) (ap loc-of (pu .place))
-    (safe-need P t (if-some (read-at t (pu .loc)) me.there) (f4 v t (pu .loc)) (flat (pu .old))
-    (ap (λ z. if-some z me.there) (pu .reads-old) ∙ typed-there (q .datas) (pu .old) tu (pu .typed))
-    (safe-need P t (write-at t (pu .loc) v) (λ t2. me.then (drops u m q (flat (pu .old)) t2) (λ j t3. me.ok d t3)) (pu .s2)
-    (ap (write-at t (pu .loc)) (o .value) ∙ pu .writes-new)
+    safe-need P _ _ _ (en .named)
+    (safe-need P _ _ _ (mu .reads-it)
+    (safe-need P _ _ _ (ap loc-of (pu .place))
+    (safe-need P _ _ _ (ap (λ z. if-some z me.there) (pu .reads-old) ∙ typed-there (q .datas) (pu .old) tu (pu .typed))
+    (safe-need P _ _ _ (ap (write-at t (pu .loc)) (o .value) ∙ pu .writes-new)
     (drop-old q m u h C ln g2 d (a .F) (pu .old ∷ pu .T) (pu .s2) (s .under) (removed-entry (pu .old) false tu) (flat (pu .old)) refl
     (pu .under ∙ a .under) (subst (λ k. Scope (length C) ln k d (a .F)) (si .5) (a .names)) (pu .world))))))))
