@@ -8,9 +8,9 @@ use Prim.Native.Nat.{ℕ, suc, _<_}
 use native.Mathlib.Omega.{arith}
 use lib.Dec.{leb}
 use lib.ListN.{length, length-append}
-use Rattle.language.specs.Base.{if-some, Lexeme, only-if}
+use Rattle.language.specs.Base.{Lexeme}
 use Rattle.language.specs.Syntax.{Ty, dat, box, Expr, ctor, boxed, call, Exprs, Fn, Prog}
-use Rattle.language.specs.Checks.{Loan, fn-named, home-of, types-of-pars, loan, owned, Home, typed, holds}
+use Rattle.language.specs.Checks.{Loan, types-of-pars, loan, Home, holds}
 use Rattle.language.specs.Checks as ch
 use Rattle.language.specs.Meaning.{Value, con-v, State, Limits, eval, nil-v, makes-box, count-in, words-of, peaks}
 use Rattle.language.specs.Meaning as me
@@ -19,12 +19,13 @@ use Rattle.soundness.specs.Trees.{Tree, con-t, box-t, flat}
 use Rattle.soundness.specs.Invariant.{in-flight, Entry, Invariant}
 use Rattle.soundness.specs.Frames.{Loans-cover, Kind-fits, Scope, Value-entry, all-loans-of, Arguments, no-args, Frame, owned-entry}
 use Rattle.soundness.specs.Preserved.{safe-ok, safe-stop, Safe, After-eval, Preserved}
-use Rattle.soundness.proofs.Basics.{some-is, if-some-is, append-nil, only-is}
+use Rattle.soundness.proofs.Basics.{some-is, append-nil}
 use Rattle.soundness.proofs.invariant.Values.{Owned-top, owned-top}
 use Rattle.soundness.proofs.invariant.Construct.{make-con, words-is, make-box}
 use Rattle.soundness.proofs.statics.Accepted.{fields-owned, fns-ok}
 use Rattle.soundness.proofs.frames.Names.{name-level-low, scope-length}
 use Rattle.soundness.proofs.Safety.{safe-then, safe-need, safe-choose, safe-weaken}
+use Rattle.soundness.proofs.statics.Inversion.{ctor-rule, call-rule, boxed-rule, Boxed-rule}
 
 -- C(..)
 pub ctor-step : (q : Prog) (m : Limits) (u : ℕ) → ch.accepts q ≡ true → Preserved q m u
@@ -33,22 +34,20 @@ pub ctor-step : (q : Prog) (m : Limits) (u : ℕ) → ch.accepts q ≡ true → 
     → Safe (After-eval q C ln d H r (s .under)) (eval (suc u) m q d (ctor k es) s)
 unfolding me.eval
 ctor-step q m u o h C ln held g d H F T s k es r e sc w =
-    let y = if-some-is (home-of (q .datas) k)
-    (λ hm. if-some (ch.args q held g es (hm .ctor1 .fields)) (λ r2. typed (dat (hm .data1 .name)) [] (r2 .env))) r e in
-    let hm : Home = y .0 in
-    let z = if-some-is (ch.args q held g es (hm .ctor1 .fields)) (λ r2. typed (dat (hm .data1 .name)) [] (r2 .env)) r (y .2) in
-    let r-is : record { ty = dat (hm .data1 .name); loans = []; env = z .0 .env } ≡ r = some-is (z .2) in
-    safe-then (After-eval q C ln d H r (s .under)) (h .evals-ok C ln held g d [] H F T s es [] (hm .ctor1 .fields) nil-v (z .0) (z .1) no-args sc w)
-    (λ vs t a. (
-    let mk = make-con (q .datas) (H ++ (a .F ++ C)) (a .K) (hm .ctor1 .fields) vs (a .T) t k hm (y .1) refl
-    (subst (λ i. Arguments i (hm .ctor1 .fields) vs) (append-nil (a .K)) (a .flown)) (fields-owned q o k hm (y .1)) (a .world) in
+    let i = ctor-rule q held g k es r e in
+    let hm : Home = i .home in
+    let ts = hm .ctor1 .fields in
+    let r-is : record { ty = dat (hm .data1 .name); loans = []; env = i .fields .env } ≡ r = some-is (i .behind) in
+    safe-then (After-eval q C ln d H r (s .under)) (h .evals-ok C ln held g d [] H F T s es [] ts nil-v (i .fields) (i .is-args) no-args sc w)
+    (λ vs t a. (let mk = make-con (q .datas) (H ++ (a .F ++ C)) (a .K) ts vs (a .T) t k hm (i .is-home) refl
+    (subst (λ z. Arguments z ts vs) (append-nil (a .K)) (a .flown)) (fields-owned q o k hm (i .is-home)) (a .world) in
     safe-ok (record {
       top = owned-entry (con-t k (mk .0)) (dat (hm .data1 .name));
       F = a .F;
       T = con-t k (mk .0) ∷ mk .1;
-      flight = record { place = ap (λ i. in-flight (con-v k i)) (sym (mk .2)); flag = refl; type = (sym (ap (λ i. i .ty) r-is), refl) };
-      covered = λ l i. absurd i;
-      names = subst (λ i. Scope (length C) ln (i .env) d (a .F)) r-is (a .names);
+      flight = record { place = ap (λ z. in-flight (con-v k z)) (sym (mk .2)); flag = refl; type = (sym (ap (λ z. z .ty) r-is), refl) };
+      covered = λ l z. absurd z;
+      names = subst (λ z. Scope (length C) ln (z .env) d (a .F)) r-is (a .names);
       world = mk .3;
       under = a .under;
     })))
@@ -60,33 +59,33 @@ pub boxed-step : (q : Prog) (m : Limits) (u : ℕ) → Preserved q m u
     → Safe (After-eval q C ln d H r (s .under)) (eval (suc u) m q d (boxed x) s)
 unfolding me.eval
 boxed-step q m u h C ln held g d H F T s x r e sc w =
-    safe-then Q (h .eval-ok C ln held g d H F T s x (y .0) (y .1) sc w)
-    (λ v t a. after v t a (owned-top (q .datas) (a .top) (H ++ (a .F ++ C)) (a .T) t v ty1 (ok1 .0) (a .flight) (a .world)))
+    safe-then Q (h .eval-ok C ln held g d H F T s x r1 (i .is-expr) sc w)
+    (λ v t a. after v t a (owned-top (q .datas) (a .top) (H ++ (a .F ++ C)) (a .T) t v ty1 (i .is-owned) (a .flight) (a .world)))
   where
     Q : Value → State → Type 0
     Q = After-eval q C ln d H r (s .under)
 
-    y : (r2 : ch.Typed) × (ch.expr q held g x ≡ some r2) × (only-if (owned (r2 .ty)) (typed (box (r2 .ty)) [] (r2 .env)) ≡ some r)
-    y = if-some-is (ch.expr q held g x) (λ r2. only-if (owned (r2 .ty)) (typed (box (r2 .ty)) [] (r2 .env))) r e
+    i : Boxed-rule q held g x r
+    i = boxed-rule q held g x r e
+
+    r1 : ch.Typed
+    r1 = i .content
 
     ty1 : Ty
-    ty1 = y .0 .ty
+    ty1 = r1 .ty
 
-    ok1 : (owned (y .0 .ty) ≡ true) × (typed (box (y .0 .ty)) [] (y .0 .env) ≡ some r)
-    ok1 = only-is (owned (y .0 .ty)) (typed (box (y .0 .ty)) [] (y .0 .env)) r (y .2)
+    r-is : record { ty = box (r1 .ty); loans = []; env = r1 .env } ≡ r
+    r-is = some-is (i .behind)
 
-    r-is : record { ty = box (y .0 .ty); loans = []; env = y .0 .env } ≡ r
-    r-is = some-is (ok1 .1)
-
-    after : (v : Value) (t : State) (a : After-eval q C ln d H (y .0) (s .under) v t) → Owned-top (q .datas) (a .T) t v ty1 (a .top)
+    after : (v : Value) (t : State) (a : After-eval q C ln d H r1 (s .under) v t) → Owned-top (q .datas) (a .T) t v ty1 (a .top)
         → Safe Q (makes-box m t v (words-of q v))
-    after v t a ot = subst (λ i. Safe Q (makes-box m t i (words-of q i))) (sym (ot .value))
+    after v t a ot = subst (λ z. Safe Q (makes-box m t z (words-of q z))) (sym (ot .value))
         (safe-choose Q (leb (peaks (count-in (t .classes) k)) (m .heap))
-        (λ i. safe-ok (record {
+        (λ _. safe-ok (record {
           top = owned-entry (box-t (length (t .roots)) k tr) (box ty1);
           F = a .F;
           T = box-t (length (t .roots)) k tr ∷ ot .rest;
-          flight = record { place = refl; flag = refl; type = (sym (ap (λ j. j .ty) r-is), ok1 .0) };
+          flight = record { place = refl; flag = refl; type = (sym (ap (λ j. j .ty) r-is), i .is-owned) };
           covered = λ l j. absurd j;
           names = subst (λ j. Scope (length C) ln (j .env) d (a .F)) r-is (a .names);
           world =
@@ -94,7 +93,7 @@ boxed-step q m u h C ln held g d H F T s x r e sc w =
               (ot .typed) (subst (λ j. Invariant (q .datas) (a .top ∷ (H ++ (a .F ++ C))) j t) (ot .trees) (a .world));
           under = a .under;
         }))
-        (λ i. safe-stop tt))
+        (λ _. safe-stop tt))
       where
         tr : Tree
         tr = ot .tree
@@ -128,33 +127,33 @@ pub call-step : (q : Prog) (m : Limits) (u : ℕ) → ch.accepts q ≡ true → 
     → Safe (After-eval q C ln d H r (s .under)) (eval (suc u) m q d (call f es) s)
 unfolding me.eval
 call-step q m u o h C ln held g d H F T s f es r e sc w =
-    let y = if-some-is (fn-named (q .funs) f)
-    (λ k. if-some (ch.args q held g es (types-of-pars (k .pars))) (λ r2. typed (k .ret) (holds (k .ret) (r2 .loans)) (r2 .env))) r e in
-    let fn : Fn = y .0 in
-    let z = if-some-is (ch.args q held g es (types-of-pars (fn .pars))) (λ r2. typed (fn .ret) (holds (fn .ret) (r2 .loans)) (r2 .env)) r (y .2) in
-    let r-is : record { ty = fn .ret; loans = holds (fn .ret) (z .0 .loans); env = z .0 .env } ≡ r = some-is (z .2) in
-    safe-then (After-eval q C ln d H r (s .under))
-    (h .evals-ok C ln held g d [] H F T s es [] (types-of-pars (fn .pars)) nil-v (z .0) (z .1) no-args sc w)
-    (λ vs t a. safe-need (After-eval q C ln d H r (s .under)) _ _ _ (y .1)
-    (safe-weaken (After-eval q C ln d H r (s .under)) (h .calls-ok (H ++ (a .F ++ C)) (a .K) (a .T) t fn vs (fns-ok q o f fn (y .1))
-    (subst (λ i. Arguments i (types-of-pars (fn .pars)) vs) (append-nil (a .K)) (a .flown))
-    (covered-low C ln (z .0 .env) d H (a .F) (z .0 .loans) (all-loans-of (a .K)) (a .names) (sc .under) (a .covered)) (a .world))
+    let i = call-rule q held g f es r e in
+    let fn : Fn = i .callee in
+    let ts = types-of-pars (fn .pars) in
+    let r1 = i .arguments in
+    let P = After-eval q C ln d H r (s .under) in
+    let r-is : record { ty = fn .ret; loans = holds (fn .ret) (r1 .loans); env = r1 .env } ≡ r = some-is (i .behind) in
+    safe-then P (h .evals-ok C ln held g d [] H F T s es [] ts nil-v r1 (i .is-args) no-args sc w)
+    (λ vs t a. safe-need P _ _ _ (i .is-fn)
+    (safe-weaken P
+    (h .calls-ok (H ++ (a .F ++ C)) (a .K) (a .T) t fn vs (fns-ok q o f fn (i .is-fn))
+    (subst (λ z. Arguments z ts vs) (append-nil (a .K)) (a .flown))
+    (covered-low C ln (r1 .env) d H (a .F) (r1 .loans) (all-loans-of (a .K)) (a .names) (sc .under) (a .covered)) (a .world))
     (λ v t2 a2. record {
       top = a2 .top;
       F = a .F;
       T = a2 .T;
-      flight = subst (λ i. Value-entry v (i .ty) (a2 .top)) r-is (a2 .flight);
-      covered = subst (λ i. Loans-cover (length C) ln (i .env) (i .loans) (loans-of (a2 .top .kind))) r-is
-          (λ l i. elim (a .covered l (a2 .loans l i)) [
-            | inl j ↦ inl j
-            | inr j ↦ inr (
-              j .0,
-              j .1,
-              subst (In (loan (j .0) (l .alone)))
-                  (sym (holds-all (fn .ret) (a2 .top .kind) (z .0 .loans) l (a2 .flight .type) i)) (j .2),
+      flight = subst (λ z. Value-entry v (z .ty) (a2 .top)) r-is (a2 .flight);
+      covered = subst (λ z. Loans-cover (length C) ln (z .env) (z .loans) (loans-of (a2 .top .kind))) r-is
+          (λ l j. elim (a .covered l (a2 .loans l j)) [
+            | inl k ↦ inl k
+            | inr k ↦ inr (
+              k .0,
+              k .1,
+              subst (In (loan (k .0) (l .alone))) (sym (holds-all (fn .ret) (a2 .top .kind) (r1 .loans) l (a2 .flight .type) j)) (k .2),
             )
           ]);
-      names = subst (λ i. Scope (length C) ln (i .env) d (a .F)) r-is (a .names);
+      names = subst (λ z. Scope (length C) ln (z .env) d (a .F)) r-is (a .names);
       world = a2 .world;
       under = a2 .under ∙ a .under;
     })))

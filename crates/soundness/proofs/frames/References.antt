@@ -1,19 +1,17 @@
 -- What the invariant says of one name of a frame, and of the references of the stack.
 use mathlib.Core.Bool.{Bool, true, false}
-use mathlib.Core.List.{List, [], _++_}
+use mathlib.Core.List.{List, _++_}
 use mathlib.Core.Logic.{_⊎_, inl, inr}
 use mathlib.Core.Option.{Option, some}
 use mathlib.Core.Path.{_≡_, refl, sym, _∙_, ap, subst}
 use Prim.Native.Nat.{ℕ}
 use native.Mathlib.Omega.{arith}
-use lib.ListN.{length}
-use Rattle.language.specs.Syntax.{Ty, int, dat, box, ref, mut, Data}
-use Rattle.language.specs.Checks.{Var, owned}
-use Rattle.language.specs.Meaning.{Loc, Value, State, here, root-of, read-at, ref-v}
-use Rattle.language.specs.Meaning as me
-use Rattle.soundness.specs.Trees.{Tree, flat, Typed, loc-down}
+use Rattle.language.specs.Syntax.{Ty, ref, mut}
+use Rattle.language.specs.Checks.{owned}
+use Rattle.language.specs.Meaning.{Value, here}
+use Rattle.soundness.specs.Trees.{flat, loc-down}
 use Rattle.soundness.specs.Borrows.{Kind, own, borrow, inert, at-level}
-use Rattle.soundness.specs.Invariant.{rooted, Entry, kinds, Content, Entry-ok, Invariant}
+use Rattle.soundness.specs.Invariant.{rooted, kinds, Entry-ok}
 use Rattle.soundness.specs.Frames.{Kind-fits}
 use Rattle.soundness.specs.References.{There-typed, Reference-valid, None-into-free, None-below-free, References-down}
 use Rattle.soundness.proofs.Basics.{some-is, true-false}
@@ -23,7 +21,7 @@ use Rattle.soundness.proofs.invariant.Top.{reads}
 use Rattle.soundness.proofs.invariant.Values.{owned-kind}
 use Rattle.soundness.proofs.invariant.Borrows.{owner-of, valid-ref-read}
 use Rattle.soundness.proofs.statics.Rules.{there-is}
-use Rattle.soundness.proofs.frames.Lookup.{Name-at, name-at, free-at}
+use Rattle.soundness.proofs.frames.Lookup.{name-at, free-at}
 
 pub there-typed : There-typed
 there-typed ds C ln held g d H F T s x v fr w th ow =

@@ -6,7 +6,7 @@ use mathlib.Core.Option.{Option, some}
 use mathlib.Core.Path.{_≡_, refl, sym, _∙_, ap, subst}
 use Prim.Native.Nat.{ℕ, suc}
 use lib.ListN.{length}
-use Rattle.language.specs.Base.{from-option, if-some, Lexeme, only-if}
+use Rattle.language.specs.Base.{from-option, Lexeme}
 use Rattle.language.specs.Syntax.{Ty, int, dat, box, ref, mut, Access, Alts, Arms, Data, Prog, take, view, edit, match-s, give-match, Ctor}
 use Rattle.language.specs.Checks.{Var, Matched, loan, look, is-free, readable, all-loans, outer, bind-all, looks-at, matched, data-of, covers, alt-names, arm-names}
 use Rattle.language.specs.Checks as ch
@@ -17,7 +17,7 @@ use Rattle.soundness.specs.Borrows.{Addr, Level-loan, Kind, own, borrow}
 use Rattle.soundness.specs.Invariant.{rooted, Entry, kinds, Content, Valid-ref, Entry-ok, Invariant}
 use Rattle.soundness.specs.Frames.{Kind-fits, Scope, Frame, Ref-params}
 use Rattle.soundness.specs.Preserved.{Safe, After-give, After-exec, Scrutinee, By-shape-ok, By-alt-ok, Preserved}
-use Rattle.soundness.proofs.Basics.{no-some, some-is, if-some-is, only-is, true-false, and-left, and-right}
+use Rattle.soundness.proofs.Basics.{no-some, some-is, only-is, true-false, and-left, and-right}
 use Rattle.soundness.proofs.invariant.Top.{reads}
 use Rattle.soundness.proofs.invariant.Borrows.{anchored-at, valid-ref-read}
 use Rattle.soundness.proofs.statics.Exprs.{Env-like}
@@ -30,6 +30,7 @@ use Rattle.soundness.proofs.Safety.{safe-need, safe-weaken, after-weak}
 use Rattle.soundness.proofs.matches.Patterns.{Bound}
 use Rattle.soundness.proofs.matches.View.{place-con, Looked}
 use Rattle.soundness.proofs.matches.Scrutinee.{fits-dat, fits-ref, fits-mut, matched-is, data-of-is, looks}
+use Rattle.soundness.proofs.statics.Inversion.{match-rule}
 
 -- the fields of one constructor, found twice
 same-ctor : (x y : Ctor) (o : Option Ctor) → o ≡ some x → o ≡ some y → x ≡ y
@@ -212,22 +213,16 @@ pub match-step : (q : Prog) (m : Limits) (u : ℕ) → Preserved q m u
     → Safe (After-exec q C ln g2 d (s .under)) (exec (suc u) m q d (match-s w x as₁) s)
 unfolding me.eval
 match-step q m u h C ln g g2 d F T s w x as₁ e sc wo =
-    let y = if-some-is (ch.there g x) (λ v. if-some (looks-at q g v w (v .ty))
-    (λ mm. only-if (covers (mm .data1) (alt-names as₁)) (ch.alts q (mm .env) w (mm .loans) (mm .data1) as₁))) g2 e in
-    let v = y .0 in
-    let z = if-some-is (looks-at q g v w (v .ty))
-    (λ mm. only-if (covers (mm .data1) (alt-names as₁)) (ch.alts q (mm .env) w (mm .loans) (mm .data1) as₁)) g2 (y .2) in
-    let mm = z .0 in
-    let r = only-is (covers (mm .data1) (alt-names as₁)) (ch.alts q (mm .env) w (mm .loans) (mm .data1) as₁) g2 (z .2) in
-    let si = scrutinee-seen q C ln g d F T s w x v mm (y .1) (z .1) sc wo in
+    let i = match-rule q g w x as₁ g2 e in
+    let si = scrutinee-seen q C ln g d F T s w x (i .var1) (i .seen) (i .is-there) (i .is-seen) sc wo in
     let lk = si .3 in
     let P : me.Env → State → Type 0 = After-exec q C ln g2 d (s .under) in
-    let l = place-of (si .0) (si .1) in
     safe-need P _ _ _ (si .4)
     (safe-need P _ _ _ (si .5)
     (safe-need P _ _ _ (lk .sees)
     (safe-need P _ _ _ (lk .shaped)
-    (h .by-alt-ok C ln g g2 d F T s w x v mm as₁ l (si .2) (y .1) (z .1) (r .0) (r .1) lk sc wo))))
+    (h .by-alt-ok C ln g g2 d F T s w x (i .var1) (i .seen) as₁ (place-of (si .0) (si .1)) (si .2) (i .is-there) (i .is-seen) (i .is-covered)
+    (i .behind) lk sc wo))))
 
 -- the case match of tails
 pub give-match-step : (q : Prog) (m : Limits) (u : ℕ) → Preserved q m u

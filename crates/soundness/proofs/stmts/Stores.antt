@@ -1,5 +1,5 @@
 -- The steps for x = e and *x = e: the new value goes in, what was there is dropped.
-use mathlib.Core.Bool.{true, false, _&&_}
+use mathlib.Core.Bool.{true, false}
 use mathlib.Core.List.{List, [], _∷_, _++_}
 use mathlib.Core.Logic.{inl, inr}
 use mathlib.Core.Option.{Option, some}
@@ -7,18 +7,18 @@ use mathlib.Core.Path.{_≡_, refl, sym, _∙_, ap, subst}
 use Prim.Native.Nat.{ℕ, suc}
 use native.Mathlib.Omega.{arith}
 use lib.ListN.{length}
-use Rattle.language.specs.Base.{if-some, Lexeme, only-if}
-use Rattle.language.specs.Syntax.{Ty, int, dat, box, ref, mut, Expr, Data, Prog, assign, store}
-use Rattle.language.specs.Checks.{same-ty, owned, look, set-gone, is-free, all-loans, stores}
+use Rattle.language.specs.Base.{if-some, Lexeme}
+use Rattle.language.specs.Syntax.{Ty, mut, Expr, Data, Prog, assign, store}
+use Rattle.language.specs.Checks.{owned, all-loans}
 use Rattle.language.specs.Checks as ch
-use Rattle.language.specs.Meaning.{Loc, Value, State, Limits, Res, here, read-at, exec, drops, ref-v, write-at, loc-of}
+use Rattle.language.specs.Meaning.{Loc, Value, State, Limits, here, read-at, exec, drops, ref-v, write-at, loc-of}
 use Rattle.language.specs.Meaning as me
 use Rattle.soundness.specs.Trees.{Tree, int-t, con-t, box-t, hole-t, flat, Stored, Typed, field-step, box-step, Path, subtree, replace, loc-down}
 use Rattle.soundness.specs.Borrows.{Addr, Level-loan, Kind, own, borrow, inert, at-level, Well-borrowed, Lent}
 use Rattle.soundness.specs.Invariant.{rooted, in-flight, Entry, kinds, Holds, Content, Valid-ref, Entry-ok, Entries-ok, Invariant}
 use Rattle.soundness.specs.Frames.{Kind-fits, Scope, Value-entry, Frame}
 use Rattle.soundness.specs.Preserved.{safe-ok, Safe, After-exec, Preserved}
-use Rattle.soundness.proofs.Basics.{no-some, some-is, if-some-is, only-is, true-false, and-left, and-right}
+use Rattle.soundness.proofs.Basics.{no-some, some-is, true-false}
 use Rattle.soundness.proofs.memory.Typing.{typed-replace, subtree-replace}
 use Rattle.soundness.proofs.loans.Stack.{none-below, pop-borrows}
 use Rattle.soundness.proofs.invariant.Levels.{anchored-under, entry-back, level-kinds, entry-ok-mid, entries-length, Entry-at, entry-at}
@@ -26,10 +26,10 @@ use Rattle.soundness.proofs.invariant.Top.{reads}
 use Rattle.soundness.proofs.invariant.Replace.{reads-way, Wrote, writes, level-mid, Refs-stay, removed-entry, replace-at}
 use Rattle.soundness.proofs.invariant.Values.{owned-top}
 use Rattle.soundness.proofs.invariant.Borrows.{owner-of}
-use Rattle.soundness.proofs.statics.Rules.{there-is, same-ty-is}
 use Rattle.soundness.proofs.frames.Names.{not-lent-by-name, free-not-among, name-entry}
 use Rattle.soundness.proofs.frames.Moves.{split-level, Cut, split-trees, swap-name}
 use Rattle.soundness.proofs.Safety.{safe-then, safe-need}
+use Rattle.soundness.proofs.statics.Inversion.{assign-rule, store-rule}
 
 -- what was there is dropped; the frame stands
 drop-old : (q : Prog) (m : Limits) (u : ℕ) → Preserved q m u
@@ -47,32 +47,22 @@ pub assign-step : (q : Prog) (m : Limits) (u : ℕ) → Preserved q m u
     → Safe (After-exec q C ln g2 d (s .under)) (exec (suc u) m q d (assign x e1) s)
 unfolding me.eval
 assign-step q m u h C ln g g2 d F T s x e1 e sc w =
-    let y = if-some-is (ch.expr q [] g e1) (λ r. if-some (look (r .env) x)
-    (λ v. only-if (owned (v .ty) && (same-ty (r .ty) (v .ty) && is-free (all-loans (r .env)) x)) (some (set-gone false (r .env) x)))) g2 e in
-    let r = y .0 in
-    let y2 = if-some-is (look (r .env) x) (λ v. only-if (owned (v .ty) && (same-ty (r .ty) (v .ty) && is-free (all-loans (r .env)) x))
-    (some (set-gone false (r .env) x))) g2 (y .2) in
-    let vx = y2 .0 in
-    let z = only-is (owned (vx .ty) && (same-ty (r .ty) (vx .ty) && is-free (all-loans (r .env)) x)) (some (set-gone false (r .env) x)) g2 (y2 .2) in
-    let ow = and-left (owned (vx .ty)) (same-ty (r .ty) (vx .ty) && is-free (all-loans (r .env)) x) (z .0) in
-    let z2 = and-right (owned (vx .ty)) (same-ty (r .ty) (vx .ty) && is-free (all-loans (r .env)) x) (z .0) in
+    let i = assign-rule q g x e1 g2 e in
+    let g1 = i .result .env in
+    let vx = i .var1 in
     let P = After-exec q C ln g2 d (s .under) in
-    let at-old : Value → State → ℕ → Value → Res me.Env = λ v t k old. me.need t (write-at t (here k) v)
-    (λ t2. me.then (drops u m q old t2) (λ j t3. me.ok d t3)) in
-    safe-then P (h .eval-ok C ln [] g d [] F T s e1 r (y .1) sc w)
-    (λ v t a. (let fl : Value-entry v (vx .ty) (a .top) = subst (λ k. Value-entry v k (a .top))
-    (same-ty-is (r .ty) (vx .ty) (and-left (same-ty (r .ty) (vx .ty)) (is-free (all-loans (r .env)) x) z2)) (a .flight) in
-    let o = owned-top (q .datas) (a .top) (a .F ++ C) (a .T) t v (vx .ty) ow fl (a .world) in
-    let sw = swap-name (q .datas) C ln [] (r .env) d [] (a .F) x vx false (a .top) (o .tree) (o .rest) t
-    (record { names = a .names; above = λ l i. absurd i; under = sc .under }) (y2 .1) ow
-    (and-right (same-ty (r .ty) (vx .ty)) (is-free (all-loans (r .env)) x) z2) (fl .place ∙ ap in-flight (o .value)) (o .stored) (inl (o .typed))
+    safe-then P (h .eval-ok C ln [] g d [] F T s e1 (i .result) (i .is-expr) sc w)
+    (λ v t a. (let fl : Value-entry v (vx .ty) (a .top) = subst (λ k. Value-entry v k (a .top)) (i .same-type) (a .flight) in
+    let o = owned-top (q .datas) (a .top) (a .F ++ C) (a .T) t v (vx .ty) (i .is-owned) fl (a .world) in
+    let sc1 : Frame C ln [] g1 d [] (a .F) = record { names = a .names; above = λ l j. absurd j; under = sc .under } in
+    let sw = swap-name (q .datas) C ln [] g1 d [] (a .F) x vx false (a .top) (o .tree) (o .rest) t sc1 (i .is-var) (i .is-owned) (i .free)
+    (fl .place ∙ ap in-flight (o .value)) (o .stored) (inl (o .typed))
     (subst (λ k. Invariant (q .datas) (a .top ∷ (a .F ++ C)) k t) (o .trees) (a .world)) in
     safe-need P _ _ _ (sw .named)
     (safe-need P _ _ _ (sw .reads-old)
     (safe-need P _ _ _ (ap (write-at t (here (sw .root))) (o .value) ∙ sw .writes-new)
-    (drop-old q m u h C ln g2 d (sw .F) (sw .old ∷ sw .T) (sw .s2) (s .under) (removed-entry (sw .old) (vx .gone) (vx .ty))
-    (flat (sw .old)) refl
-    (sw .under ∙ a .under) (subst (λ k. Scope (length C) ln k d (sw .F)) (some-is (z .1)) (sw .names)) (sw .world))))))
+    (drop-old q m u h C ln g2 d (sw .F) (sw .old ∷ sw .T) (sw .s2) (s .under) (removed-entry (sw .old) (vx .gone) (vx .ty)) (flat (sw .old)) refl
+    (sw .under ∙ a .under) (subst (λ k. Scope (length C) ln k d (sw .F)) (i .behind) (sw .names)) (sw .world))))))
 
 -- a value on top goes in where a mut points that's free
 pub record Put (ds : List Data) (N : List Entry) (y : Tree) (s : State) (u : Ty) (w : Value) : Type 0 where
@@ -190,24 +180,6 @@ put-in ds top N y T s u a ls w lx t-at st-y ty-y ow x-at free pt wo = record {
         (λ bel. none-below (kinds N) (sn .exclusivity) lx (borrow true u a ls) a x-at refl refl free j (borrow al t b ms) b
         (ap (λ z. at-level (kinds z) j) (sp .2) ∙ at-j) refl (sym (sp .3) ∙ sym cell) bel) lead2 ty
 
-stores-is : (g : ch.Env) (x : Lexeme) (t tx : Ty) (h : ch.Env) → stores g x t tx ≡ some h
-    → (u : Ty) × (tx ≡ mut u) × (owned u ≡ true) × (t ≡ u) × (is-free (all-loans g) x ≡ true) × (g ≡ h)
-stores-is g x t int h e = absurd (no-some e)
-stores-is g x t (dat d) h e = absurd (no-some e)
-stores-is g x t (box u) h e = absurd (no-some e)
-stores-is g x t (ref u) h e = absurd (no-some e)
-stores-is g x t (mut u) h e =
-    let z = only-is (owned u && (same-ty t u && is-free (all-loans g) x)) (some g) h e in
-    let z2 = and-right (owned u) (same-ty t u && is-free (all-loans g) x) (z .0) in (
-      u,
-      refl,
-      and-left (owned u) (same-ty t u && is-free (all-loans g) x) (z .0),
-      same-ty-is t u
-          (and-left (same-ty t u) (is-free (all-loans g) x) z2),
-      and-right (same-ty t u) (is-free (all-loans g) x) z2,
-      some-is (z .1),
-    )
-
 pub typed-there : (ds : List Data) (x : Tree) (t : Ty) → Typed ds x t → me.there (flat x) ≡ some (flat x)
 typed-there ds (int-t k) t ty = refl
 typed-there ds (con-t k ts) t ty = refl
@@ -253,36 +225,27 @@ pub store-step : (q : Prog) (m : Limits) (u : ℕ) → Preserved q m u
     → Safe (After-exec q C ln g2 d (s .under)) (exec (suc u) m q d (store x e1) s)
 unfolding me.eval
 store-step q m u h C ln g g2 d F T s x e1 e sc w =
-    let y = if-some-is (ch.expr q [] g e1) (λ r. if-some (ch.there (r .env) x) (λ v. stores (r .env) x (r .ty) (v .ty))) g2 e in
-    let r = y .0 in
-    let y2 = if-some-is (ch.there (r .env) x) (λ v. stores (r .env) x (r .ty) (v .ty)) g2 (y .2) in
-    let vx = y2 .0 in
-    let th = there-is (r .env) x vx (y2 .1) in
-    let si = stores-is (r .env) x (r .ty) (vx .ty) g2 (y2 .2) in
-    let tu = si .0 in
+    let i = store-rule q g x e1 g2 e in
+    let g1 = i .result .env in
+    let ty = i .target in
     let P = After-exec q C ln g2 d (s .under) in
-    let f4 : Value → State → Loc → Value → Res me.Env = λ v t l old. me.need t (write-at t l v)
-    (λ t2. me.then (drops u m q old t2) (λ j t3. me.ok d t3)) in
-    let f3 : Value → State → Loc → Res me.Env = λ v t l. me.need t (if-some (read-at t l) me.there) (f4 v t l) in
-    let f2 : Value → State → Value → Res me.Env = λ v t k. me.need t (loc-of k) (f3 v t) in
-    let f1 : Value → State → ℕ → Res me.Env = λ v t k. me.need t (read-at t (here k)) (f2 v t) in
-    safe-then P (h .eval-ok C ln [] g d [] F T s e1 r (y .1) sc w)
-    (λ v t a. (let fl : Value-entry v tu (a .top) = subst (λ k. Value-entry v k (a .top)) (si .3) (a .flight) in
-    let o = owned-top (q .datas) (a .top) (a .F ++ C) (a .T) t v tu (si .2) fl (a .world) in
-    let w2 : Invariant (q .datas) (a .top ∷ (a .F ++ C)) (o .tree ∷ o .rest) t = subst (λ k. Invariant (q .datas) (a .top ∷ (a .F ++ C)) k t)
-    (o .trees) (a .world) in
-    let sc2 : Frame C ln [] (r .env) d [] (a .F) = record { names = a .names; above = λ l i. absurd i; under = sc .under } in
-    let en = name-entry C ln (r .env) d (a .F) x vx (a .names) (th .0) in
-    let mu = mut-at (q .datas) (a .F ++ C) (o .rest) t (en .level) (en .root) tu (en .en) (subst (λ k. Kind-fits k (en .en .kind)) (si .1) (en .type))
-    (en .placed) (en .stands) (w2 .fine .1) in
-    let free = not-lent-by-name C ln [] (r .env) d [] (a .F) x (en .level) false sc2 (anchored-under (a .F) C (w2 .borrows .anchored .1))
-    (en .levelled) (free-not-among (all-loans (r .env)) x (si .4)) in
-    let pu = put-in (q .datas) (a .top) (a .F ++ C) (o .tree) (o .rest) t tu (mu .addr) (mu .ls) (mu .val) (en .level)
-    (fl .place ∙ ap in-flight (o .value)) (o .stored) (o .typed) (si .2) (mu .shaped) free (mu .points) w2 in
+    safe-then P (h .eval-ok C ln [] g d [] F T s e1 (i .result) (i .is-expr) sc w)
+    (λ v t a. (let fl : Value-entry v ty (a .top) = subst (λ k. Value-entry v k (a .top)) (i .same-type) (a .flight) in
+    let o = owned-top (q .datas) (a .top) (a .F ++ C) (a .T) t v ty (i .is-owned) fl (a .world) in
+    let w2 : Invariant (q .datas) (a .top ∷ (a .F ++ C)) (o .tree ∷ o .rest) t
+    = subst (λ k. Invariant (q .datas) (a .top ∷ (a .F ++ C)) k t) (o .trees) (a .world) in
+    let sc1 : Frame C ln [] g1 d [] (a .F) = record { names = a .names; above = λ l j. absurd j; under = sc .under } in
+    let en = name-entry C ln g1 d (a .F) x (i .var1) (a .names) (i .is-var) in
+    let mu = mut-at (q .datas) (a .F ++ C) (o .rest) t (en .level) (en .root) ty (en .en)
+    (subst (λ k. Kind-fits k (en .en .kind)) (i .is-mut) (en .type)) (en .placed) (en .stands) (w2 .fine .1) in
+    let not-lent = not-lent-by-name C ln [] g1 d [] (a .F) x (en .level) false sc1 (anchored-under (a .F) C (w2 .borrows .anchored .1))
+    (en .levelled) (free-not-among (all-loans g1) x (i .free)) in
+    let pu = put-in (q .datas) (a .top) (a .F ++ C) (o .tree) (o .rest) t ty (mu .addr) (mu .ls) (mu .val) (en .level)
+    (fl .place ∙ ap in-flight (o .value)) (o .stored) (o .typed) (i .is-owned) (mu .shaped) not-lent (mu .points) w2 in
     safe-need P _ _ _ (en .named)
     (safe-need P _ _ _ (mu .reads-it)
     (safe-need P _ _ _ (ap loc-of (pu .place))
-    (safe-need P _ _ _ (ap (λ z. if-some z me.there) (pu .reads-old) ∙ typed-there (q .datas) (pu .old) tu (pu .typed))
+    (safe-need P _ _ _ (ap (λ z. if-some z me.there) (pu .reads-old) ∙ typed-there (q .datas) (pu .old) ty (pu .typed))
     (safe-need P _ _ _ (ap (write-at t (pu .loc)) (o .value) ∙ pu .writes-new)
-    (drop-old q m u h C ln g2 d (a .F) (pu .old ∷ pu .T) (pu .s2) (s .under) (removed-entry (pu .old) false tu) (flat (pu .old)) refl
-    (pu .under ∙ a .under) (subst (λ k. Scope (length C) ln k d (a .F)) (si .5) (a .names)) (pu .world))))))))
+    (drop-old q m u h C ln g2 d (a .F) (pu .old ∷ pu .T) (pu .s2) (s .under) (removed-entry (pu .old) false ty) (flat (pu .old)) refl
+    (pu .under ∙ a .under) (subst (λ k. Scope (length C) ln k d (a .F)) (i .behind) (a .names)) (pu .world))))))))
