@@ -127,7 +127,7 @@ give-cond-step q m u h C ln g d F T s qs t e1 f1 f2 e lp sc w = go (ch.expr q []
         → Safe P (me.then (eval u m q d e1 s) (λ v z. me.need z (num-of v) (λ k. bodies u m q d d (choose (eqb k 0) f2 f1) z)))
     go none ex e2 = absurd (true-false (sym e2))
     go (some r) ex e2 =
-        let ty = and-left (same-ty (r .ty) int) (ch.is-body q qs t (r .env) f1 && ch.is-body q qs t (r .env) f2) e2 in
+        let ty = same-ty-is (r .ty) int (and-left (same-ty (r .ty) int) (ch.is-body q qs t (r .env) f1 && ch.is-body q qs t (r .env) f2) e2) in
         let two = and-right (same-ty (r .ty) int) (ch.is-body q qs t (r .env) f1 && ch.is-body q qs t (r .env) f2) e2 in
         let lp2 = lent-like qs g (r .env) (expr-like q [] g e1 r ex) lp in
         int-then q m u h P (λ z k. bodies u m q d d (choose (eqb k 0) f2 f1) z) C ln g d F T s e1 r ex ty sc w

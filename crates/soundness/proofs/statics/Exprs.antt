@@ -1,15 +1,16 @@
 -- Static: expressions keep names, types and loans of the names in scope; only flags change.
-use mathlib.Core.Bool.{Bool, true, false, _&&_}
+use mathlib.Core.Bool.{Bool, true, false}
 use mathlib.Core.List.{List, [], _∷_, _++_}
-use mathlib.Core.Option.{Option, some, none}
+use mathlib.Core.Option.{some, none}
 use mathlib.Core.Path.{_≡_, refl, sym, _∙_, ap, subst}
 use Prim.Native.Nat.{suc}
 use lib.ListN.{length}
-use Rattle.language.specs.Base.{choose, if-some, Lexeme, same, only-if}
+use Rattle.language.specs.Base.{choose, Lexeme, same}
 use Rattle.language.specs.Syntax.{Ty, int, dat, box, ref, mut, Expr, num, var, op, ctor, boxed, call, share, lend, load, get-e, Exprs, Prog, nil-e, cons-e}
-use Rattle.language.specs.Checks.{Loan, Var, fn-named, home-of, types-of-pars, loan, same-ty, owned, Env, look, set-gone, is-free, readable, all-loans, typed, value, shared, Typed, there, expr, loadable, holds, args, with-ty}
+use Rattle.language.specs.Checks.{Loan, Var, types-of-pars, loan, Env, look, set-gone, typed, value, shared, Typed, there, expr, holds, args}
 use Rattle.language.specs.Checks as ch
 use Rattle.soundness.proofs.Basics.{no-some, some-is, if-some-is, only-is, true-false, same-is}
+use Rattle.soundness.proofs.statics.Inversion.{op-rule, ctor-rule, boxed-rule, call-rule, lend-rule, load-rule, args-rule}
 
 abbrev pub Env-like : Env → Env → Type 0
 Env-like [] [] = Unit {0}
@@ -55,44 +56,30 @@ shared-like held g v (box t) r e = env-is g (ref (box t)) (loan (v .name) false 
 shared-like held g v (ref t) r e = absurd (no-some e)
 shared-like held g v (mut t) r e = env-is g (ref t) (loan (v .name) false ∷ []) g r (like-self g) (only-is _ _ r e .1)
 
-with-is : (o : Option Typed) (t : Ty) (f : List Loan → Env → Option Typed) (r : Typed) → with-ty o t f ≡ some r
-    → (y : Typed) × (o ≡ some y) × (f (y .loans) (y .env) ≡ some r)
-with-is none t f r e = absurd (no-some e)
-with-is (some y) t f r e = (y, refl, only-is (same-ty (y .ty) t) (f (y .loans) (y .env)) r e .1)
-
 mutual
   pub expr-like : (q : Prog) (held : List Loan) (g : Env) (e : Expr) (r : Typed) → expr q held g e ≡ some r → Env-like g (r .env)
   expr-like q held g (num k) r h = env-is g int [] g r (like-self g) h
   expr-like q held g (var x) r h = let y = if-some-is (there g x) (λ v. value held g v (v .ty)) r h in value-like held g (y .0) (y .0 .ty) r (y .2)
   expr-like q held g (op o a d) r h =
-      let y = with-is (expr q held g a) int (λ ls k. with-ty (expr q held k d) int (λ ms i. typed int [] i)) r h in
-      let z = with-is (expr q held (y .0 .env) d) int (λ ms i. typed int [] i) r (y .2) in
-      like-then g (y .0 .env) (r .env) (expr-like q held g a (y .0) (y .1))
-      (env-is (y .0 .env) int [] (z .0 .env) r (expr-like q held (y .0 .env) d (z .0) (z .1)) (z .2))
+      let i = op-rule q held g o a d r h in
+      like-then g (i .left .env) (r .env) (expr-like q held g a (i .left) (i .is-left))
+      (env-is (i .left .env) int [] (i .right .env) r (expr-like q held (i .left .env) d (i .right) (i .is-right)) (i .behind))
   expr-like q held g (ctor k es) r h =
-      let y = if-some-is (home-of (q .datas) k)
-      (λ hm. if-some (args q held g es (hm .ctor1 .fields)) (λ r2. typed (dat (hm .data1 .name)) [] (r2 .env))) r h in
-      let z = if-some-is (args q held g es (y .0 .ctor1 .fields)) (λ r2. typed (dat (y .0 .data1 .name)) [] (r2 .env)) r (y .2) in
-      env-is g (dat (y .0 .data1 .name)) [] (z .0 .env) r (args-like q held g es (y .0 .ctor1 .fields) (z .0) (z .1)) (z .2)
+      let i = ctor-rule q held g k es r h in
+      env-is g (dat (i .home .data1 .name)) [] (i .fields .env) r
+      (args-like q held g es (i .home .ctor1 .fields) (i .fields) (i .is-args)) (i .behind)
   expr-like q held g (boxed a) r h =
-      let y = if-some-is (expr q held g a) (λ r2. only-if (owned (r2 .ty)) (typed (box (r2 .ty)) [] (r2 .env))) r h in
-      env-is g (box (y .0 .ty)) [] (y .0 .env) r (expr-like q held g a (y .0) (y .1))
-      (only-is (owned (y .0 .ty)) (typed (box (y .0 .ty)) [] (y .0 .env)) r (y .2) .1)
+      let i = boxed-rule q held g a r h in
+      env-is g (box (i .content .ty)) [] (i .content .env) r (expr-like q held g a (i .content) (i .is-expr)) (i .behind)
   expr-like q held g (call f es) r h =
-      let y = if-some-is (fn-named (q .funs) f)
-      (λ k. if-some (args q held g es (types-of-pars (k .pars))) (λ r2. typed (k .ret) (holds (k .ret) (r2 .loans)) (r2 .env))) r h in
-      let z = if-some-is (args q held g es (types-of-pars (y .0 .pars)))
-      (λ r2. typed (y .0 .ret) (holds (y .0 .ret) (r2 .loans)) (r2 .env)) r (y .2) in
-      env-is g (y .0 .ret) (holds (y .0 .ret) (z .0 .loans)) (z .0 .env) r (args-like q held g es (types-of-pars (y .0 .pars)) (z .0) (z .1)) (z .2)
+      let i = call-rule q held g f es r h in
+      env-is g (i .callee .ret) (holds (i .callee .ret) (i .arguments .loans)) (i .arguments .env) r
+      (args-like q held g es (types-of-pars (i .callee .pars)) (i .arguments) (i .is-args)) (i .behind)
   expr-like q held g (share x) r h =
       let y = if-some-is (there g x) (λ v. shared held g v (v .ty)) r h in shared-like held g (y .0) (y .0 .ty) r (y .2)
   expr-like q held g (lend x) r h =
-      let y = if-some-is (there g x) (λ v. only-if (owned (v .ty) && is-free (held ++ all-loans g) x)
-      (typed (mut (v .ty)) (loan x true ∷ []) g)) r h in env-is g (mut (y .0 .ty)) (loan x true ∷ []) g r (like-self g)
-      (only-is (owned (y .0 .ty) && is-free (held ++ all-loans g) x) (typed (mut (y .0 .ty)) (loan x true ∷ []) g) r (y .2) .1)
-  expr-like q held g (load x) r h =
-      let y = if-some-is (there g x) (λ v. only-if (loadable (v .ty) && readable (held ++ all-loans g) x) (typed int [] g)) r h in
-      env-is g int [] g r (like-self g) (only-is (loadable (y .0 .ty) && readable (held ++ all-loans g) x) (typed int [] g) r (y .2) .1)
+      let i = lend-rule q held g x r h in env-is g (mut (i .var1 .ty)) (loan x true ∷ []) g r (like-self g) (i .behind)
+  expr-like q held g (load x) r h = env-is g int [] g r (like-self g) (load-rule q held g x r h .behind)
   expr-like q held g get-e r h = env-is g int [] g r (like-self g) h
 
   pub args-like : (q : Prog) (held : List Loan) (g : Env) (es : Exprs) (ts : List Ty) (r : Typed) → args q held g es ts ≡ some r → Env-like g (r .env)
@@ -100,11 +87,10 @@ mutual
   args-like q held g nil-e (t ∷ ts) r h = absurd (no-some h)
   args-like q held g (cons-e e es) [] r h = absurd (no-some h)
   args-like q held g (cons-e e es) (t ∷ ts) r h =
-      let y = with-is (expr q held g e) t (λ ls k. if-some (args q (ls ++ held) k es ts) (λ r2. typed int (ls ++ r2 .loans) (r2 .env))) r h in
-      let z = if-some-is (args q (y .0 .loans ++ held) (y .0 .env) es ts) (λ r2. typed int (y .0 .loans ++ r2 .loans) (r2 .env)) r (y .2) in
-      like-then g (y .0 .env) (r .env) (expr-like q held g e (y .0) (y .1))
-      (env-is (y .0 .env) int (y .0 .loans ++ z .0 .loans) (z .0 .env) r
-      (args-like q (y .0 .loans ++ held) (y .0 .env) es ts (z .0) (z .1)) (z .2))
+      let i = args-rule q held g e es t ts r h in
+      like-then g (i .first .env) (r .env) (expr-like q held g e (i .first) (i .is-first))
+      (env-is (i .first .env) int (i .first .loans ++ i .others .loans) (i .others .env) r
+      (args-like q (i .first .loans ++ held) (i .first .env) es ts (i .others) (i .is-others)) (i .behind))
 
 -- environments that differ by flags
 pub look-name : (g : ch.Env) (x : Lexeme) (v : Var) → look g x ≡ some v → v .name ≡ x

@@ -1,24 +1,17 @@
 -- Static: what statements and alternatives make of the names in scope.
-use mathlib.Core.Bool.{Bool, true, false, _&&_}
+use mathlib.Core.Bool.{Bool, true, false}
 use mathlib.Core.List.{List, [], _∷_, _++_}
 use mathlib.Core.Option.{Option, some}
 use mathlib.Core.Path.{_≡_, refl, _∙_, subst}
 use Rattle.language.specs.Base.{choose, if-some, Lexeme, same, only-if}
 use Rattle.language.specs.Syntax.{Ty, int, dat, box, ref, mut, Access, Stmt, Stmts, Alts, Data, Prog, nil-s, cons-s, assign, store, bind, put-s, cond, loop, match-s, open-s, inside, Ctor, no-alts, alt}
-use Rattle.language.specs.Checks.{Loan, Var, loan, same-ty, owned, Env, look, fresh, set-gone, enter, is-free, readable, all-loans, outer, both, no-more-gone, bind-all, looks-at, stores, ctor-named, there, expr, stmt, stmts, alts, goes-in, boxed-in, covers, alt-names, is-no-alts}
+use Rattle.language.specs.Checks.{Loan, Var, loan, Env, set-gone, enter, is-free, readable, all-loans, outer, both, bind-all, ctor-named, stmt, stmts, alts, goes-in, boxed-in, is-no-alts}
 use Rattle.language.specs.Meaning as me
-use Rattle.soundness.proofs.Basics.{no-some, some-is, if-some-is, only-is, and-left, same-is}
+use Rattle.soundness.proofs.Basics.{no-some, some-is, if-some-is, only-is, same-is}
 use Rattle.soundness.proofs.invariant.Flags.{Weaker}
 use Rattle.soundness.proofs.statics.Exprs.{Env-like, like-self, like-then, like-gone, expr-like, fresh-like}
-use Rattle.soundness.proofs.statics.Rules.{as-int-is}
 use Rattle.soundness.proofs.statics.Scopes.{Distinct, like-distinct, like-sym, both-like, both-left, both-right, Grows, grows-like, grows-then, fresh-none, grows-enter, outer-like, bind-grows, looks-like}
-
-stores-env : (g : Env) (x : Lexeme) (t u : Ty) (h : Env) → stores g x t u ≡ some h → g ≡ h
-stores-env g x t int h e = absurd (no-some e)
-stores-env g x t (dat d) h e = absurd (no-some e)
-stores-env g x t (box u) h e = absurd (no-some e)
-stores-env g x t (ref u) h e = absurd (no-some e)
-stores-env g x t (mut u) h e = some-is (only-is (owned u && (same-ty t u && is-free (all-loans g) x)) (some g) h e .1)
+use Rattle.soundness.proofs.statics.Inversion.{bind-rule, assign-rule, store-rule, put-rule, cond-rule, loop-rule, match-rule, open-rule, inside-rule}
 
 goes-env : (g : Env) (v : Var) (x : Lexeme) (t : Ty) (h : Env) → goes-in g v x t ≡ some h → (u : Ty) × (ls : List Loan) × (enter g x u ls ≡ h)
 goes-env g v x int h e = absurd (no-some e)
@@ -63,73 +56,51 @@ alt-is q g w ls d k xs ss as₁ h e =
 mutual
   pub stmt-grows : (q : Prog) (g : Env) (x : Stmt) (h : Env) → Distinct g → stmt q g x ≡ some h → Grows g h
   stmt-grows q g (bind x a) h u e =
-      let y = if-some-is (expr q [] g a) (λ r. only-if (fresh (r .env) x) (some (enter (r .env) x (r .ty) (r .loans)))) h e in
-      let z = only-is (fresh (y .0 .env) x) (some (enter (y .0 .env) x (y .0 .ty) (y .0 .loans))) h (y .2) in
-      grows-is g (enter (y .0 .env) x (y .0 .ty) (y .0 .loans)) h
-      (grows-enter g (y .0 .env) x (y .0 .ty) (y .0 .loans) (grows-like g (y .0 .env) u (expr-like q [] g a (y .0) (y .1)))
-      (fresh-none (y .0 .env) x (z .0))) (some-is (z .1))
+      let i = bind-rule q g x a h e in
+      let k = i .result .env in
+      grows-is g (enter k x (i .result .ty) (i .result .loans)) h
+      (grows-enter g k x (i .result .ty) (i .result .loans) (grows-like g k u (expr-like q [] g a (i .result) (i .is-expr)))
+      (fresh-none k x (i .is-fresh))) (i .behind)
   stmt-grows q g (assign x a) h u e =
-      let y = if-some-is (expr q [] g a) (λ r. if-some (look (r .env) x)
-      (λ v. only-if (owned (v .ty) && (same-ty (r .ty) (v .ty) && is-free (all-loans (r .env)) x)) (some (set-gone false (r .env) x)))) h e in
-      let y2 = if-some-is (look (y .0 .env) x)
-      (λ v. only-if (owned (v .ty) && (same-ty (y .0 .ty) (v .ty) && is-free (all-loans (y .0 .env)) x)) (some (set-gone false (y .0 .env) x))) h
-      (y .2) in
-      let z = only-is (owned (y2 .0 .ty) && (same-ty (y .0 .ty) (y2 .0 .ty) && is-free (all-loans (y .0 .env)) x))
-      (some (set-gone false (y .0 .env) x)) h (y2 .2) in
-      grows-is g (set-gone false (y .0 .env) x) h
-      (grows-like g (set-gone false (y .0 .env) x) u
-      (like-then g (y .0 .env) (set-gone false (y .0 .env) x) (expr-like q [] g a (y .0) (y .1)) (like-gone false (y .0 .env) x)))
-      (some-is (z .1))
+      let i = assign-rule q g x a h e in
+      let k = i .result .env in
+      grows-is g (set-gone false k x) h
+      (grows-like g (set-gone false k x) u
+      (like-then g k (set-gone false k x) (expr-like q [] g a (i .result) (i .is-expr)) (like-gone false k x))) (i .behind)
   stmt-grows q g (store x a) h u e =
-      let y = if-some-is (expr q [] g a) (λ r. if-some (there (r .env) x) (λ v. stores (r .env) x (r .ty) (v .ty))) h e in
-      let y2 = if-some-is (there (y .0 .env) x) (λ v. stores (y .0 .env) x (y .0 .ty) (v .ty)) h (y .2) in
-      grows-is g (y .0 .env) h (grows-like g (y .0 .env) u (expr-like q [] g a (y .0) (y .1)))
-      (stores-env (y .0 .env) x (y .0 .ty) (y2 .0 .ty) h (y2 .2))
+      let i = store-rule q g x a h e in
+      grows-is g (i .result .env) h (grows-like g (i .result .env) u (expr-like q [] g a (i .result) (i .is-expr))) (i .behind)
   stmt-grows q g (put-s a) h u e =
-      let y = as-int-is (expr q [] g a) (λ k. some k) h e in
-      grows-is g (y .0 .env) h (grows-like g (y .0 .env) u (expr-like q [] g a (y .0) (y .1))) (some-is (y .3))
+      let i = put-rule q g a h e in
+      grows-is g (i .result .env) h (grows-like g (i .result .env) u (expr-like q [] g a (i .result) (i .is-expr))) (i .behind)
   stmt-grows q g (cond a f1 f2) h u e =
-      let y = as-int-is (expr q [] g a) (λ k. if-some (stmts q k f1) (λ i. if-some (stmts q k f2) (λ j. some (both (outer k i) (outer k j))))) h e in
-      let k = y .0 .env in
-      let lk = expr-like q [] g a (y .0) (y .1) in
-      let y2 = if-some-is (stmts q k f1) (λ i. if-some (stmts q k f2) (λ j. some (both (outer k i) (outer k j)))) h (y .3) in
-      let y3 = if-some-is (stmts q k f2) (λ j. some (both (outer k (y2 .0)) (outer k j))) h (y2 .2) in
-      let gr = stmts-grows q k f1 (y2 .0) (like-distinct g k lk u) (y2 .1) in
-      grows-is g (both (outer k (y2 .0)) (outer k (y3 .0))) h
-      (grows-like g (both (outer k (y2 .0)) (outer k (y3 .0))) u
-      (like-then g k (both (outer k (y2 .0)) (outer k (y3 .0))) lk
-      (like-then k (outer k (y2 .0)) (both (outer k (y2 .0)) (outer k (y3 .0))) (outer-like k (y2 .0) gr)
-      (both-like (outer k (y2 .0)) (outer k (y3 .0)))))) (some-is (y3 .2))
+      let i = cond-rule q g a f1 f2 h e in
+      let k = i .result .env in
+      let either = both (outer k (i .yes)) (outer k (i .no)) in
+      let lk = expr-like q [] g a (i .result) (i .is-expr) in
+      let gr = stmts-grows q k f1 (i .yes) (like-distinct g k lk u) (i .is-yes) in
+      grows-is g either h
+      (grows-like g either u (like-then g k either lk
+      (like-then k (outer k (i .yes)) either (outer-like k (i .yes) gr) (both-like (outer k (i .yes)) (outer k (i .no)))))) (i .behind)
   stmt-grows q g (loop a f1) h u e =
-      let y = as-int-is (expr q [] g a) (λ k. if-some (stmts q k f1) (λ i. only-if (no-more-gone g (outer k i)) (some k))) h e in
-      let k = y .0 .env in
-      let y2 = if-some-is (stmts q k f1) (λ i. only-if (no-more-gone g (outer k i)) (some k)) h (y .3) in
-      grows-is g k h (grows-like g k u (expr-like q [] g a (y .0) (y .1)))
-      (some-is (only-is (no-more-gone g (outer k (y2 .0))) (some k) h (y2 .2) .1))
+      let i = loop-rule q g a f1 h e in
+      grows-is g (i .result .env) h (grows-like g (i .result .env) u (expr-like q [] g a (i .result) (i .is-expr))) (i .behind)
   stmt-grows q g (match-s w x as₁) h u e =
-      let y = if-some-is (there g x) (λ v. if-some (looks-at q g v w (v .ty))
-      (λ m. only-if (covers (m .data1) (alt-names as₁)) (alts q (m .env) w (m .loans) (m .data1) as₁))) h e in
-      let y2 = if-some-is (looks-at q g (y .0) w (y .0 .ty))
-      (λ m. only-if (covers (m .data1) (alt-names as₁)) (alts q (m .env) w (m .loans) (m .data1) as₁)) h (y .2) in
-      let mm = y2 .0 in
-      let z = only-is (covers (mm .data1) (alt-names as₁)) (alts q (mm .env) w (mm .loans) (mm .data1) as₁) h (y2 .2) in
-      let lk = looks-like q g (y .0) w (y .0 .ty) mm (y2 .1) in
-      grows-like g h u (like-then g (mm .env) h lk (alts-like q (mm .env) w (mm .loans) (mm .data1) as₁ h (like-distinct g (mm .env) lk u) (z .1)))
+      let i = match-rule q g w x as₁ h e in
+      let mm = i .seen in
+      let lk = looks-like q g (i .var1) w (i .var1 .ty) mm (i .is-seen) in
+      grows-like g h u (like-then g (mm .env) h lk
+      (alts-like q (mm .env) w (mm .loans) (mm .data1) as₁ h (like-distinct g (mm .env) lk u) (i .behind)))
   stmt-grows q g (open-s x a) h u e =
-      let y = if-some-is (there g a) (λ v. if-some (boxed-in (v .ty))
-      (λ t. only-if (fresh g x && is-free (all-loans g) a) (some (enter (set-gone true g a) x t [])))) h e in
-      let y2 = if-some-is (boxed-in (y .0 .ty))
-      (λ t. only-if (fresh g x && is-free (all-loans g) a) (some (enter (set-gone true g a) x t []))) h (y .2) in
-      let z = only-is (fresh g x && is-free (all-loans g) a) (some (enter (set-gone true g a) x (y2 .0) [])) h (y2 .2) in
+      let i = open-rule q g x a h e in
       let lk = like-gone true g a in
-      grows-is g (enter (set-gone true g a) x (y2 .0) []) h
-      (grows-enter g (set-gone true g a) x (y2 .0) [] (grows-like g (set-gone true g a) u lk)
-      (fresh-like g (set-gone true g a) x lk (fresh-none g x (and-left (fresh g x) (is-free (all-loans g) a) (z .0))))) (some-is (z .1))
+      grows-is g (enter (set-gone true g a) x (i .content) []) h
+      (grows-enter g (set-gone true g a) x (i .content) [] (grows-like g (set-gone true g a) u lk)
+      (fresh-like g (set-gone true g a) x lk (fresh-none g x (i .is-fresh)))) (i .behind)
   stmt-grows q g (inside x a) h u e =
-      let z = only-is (fresh g x) (if-some (there g a) (λ v. goes-in g v x (v .ty))) h e in
-      let y = if-some-is (there g a) (λ v. goes-in g v x (v .ty)) h (z .1) in
-      let k = goes-env g (y .0) x (y .0 .ty) h (y .2) in
-      grows-is g (enter g x (k .0) (k .1)) h (grows-enter g g x (k .0) (k .1) (grows-like g g u (like-self g)) (fresh-none g x (z .0))) (k .2)
+      let i = inside-rule q g x a h e in
+      let k = goes-env g (i .var1) x (i .var1 .ty) h (i .behind) in
+      grows-is g (enter g x (k .0) (k .1)) h (grows-enter g g x (k .0) (k .1) (grows-like g g u (like-self g)) (fresh-none g x (i .is-fresh))) (k .2)
 
   pub stmts-grows : (q : Prog) (g : Env) (x : Stmts) (h : Env) → Distinct g → stmts q g x ≡ some h → Grows g h
   stmts-grows q g nil-s h u e = grows-is g g h (grows-like g g u (like-self g)) (some-is e)

@@ -6,9 +6,9 @@ use mathlib.Core.Path.{_≡_, refl, sym, _∙_, ap, subst}
 use Prim.Native.Nat.{ℕ, suc}
 use native.Mathlib.Omega.{arith}
 use lib.ListN.{length}
-use Rattle.language.specs.Base.{if-some, Lexeme, only-if}
+use Rattle.language.specs.Base.{Lexeme, only-if}
 use Rattle.language.specs.Syntax.{Ty, int, dat, box, ref, mut, Data, Prog, inside}
-use Rattle.language.specs.Checks.{Loan, Var, loan, owned, look, fresh, enter, is-free, readable, all-loans, goes-in, boxed-in}
+use Rattle.language.specs.Checks.{Loan, Var, loan, owned, look, enter, is-free, readable, all-loans, goes-in, boxed-in}
 use Rattle.language.specs.Checks as ch
 use Rattle.language.specs.Meaning.{Loc, Value, State, Limits, Res, here, root-of, read-at, exec, ref-v, adds-root, loc-of, box-of}
 use Rattle.language.specs.Meaning as me
@@ -29,6 +29,7 @@ use Rattle.soundness.proofs.frames.Lookup.{Name-at, name-at, free-at, one-cove
 use Rattle.soundness.proofs.Safety.{safe-need}
 use Rattle.soundness.proofs.matches.Patterns.{scope-more, subtree-down}
 use Rattle.soundness.proofs.stmts.Open.{boxed-is, is-box1}
+use Rattle.soundness.proofs.statics.Inversion.{Inside-rule, inside-rule}
 
 -- one step further down, into a box
 loc-down-in : (l : Loc) (q : Path) (t y : Tree) (r w : ℕ) → subtree q t ≡ some (box-t r w y) → loc-down l (q ++ (box-step ∷ [])) t ≡ here r
@@ -83,7 +84,7 @@ pub inside-step : (q : Prog) (m : Limits) (u : ℕ) (C : List Entry) (ln : List 
     (T : List Tree) (s : State) (x y : Lexeme) → ch.stmt q g (inside x y) ≡ some g2 → Frame C ln [] g d [] F → Invariant (q .datas) (F ++ C) T s
     → Safe (After-exec q C ln g2 d (s .under)) (exec (suc u) m q d (inside x y) s)
 unfolding me.eval
-inside-step q m u C ln g g2 d F T s x y e sc w = by-type (v .ty) (pl .type) (a2 .2)
+inside-step q m u C ln g g2 d F T s x y e sc w = by-type (v .ty) (pl .type) (i1 .behind)
   where
     N : List Entry
     N = F ++ C
@@ -91,32 +92,19 @@ inside-step q m u C ln g g2 d F T s x y e sc w = by-type (v .ty) (pl .type) (a2 
     P : me.Env → State → Type 0
     P = After-exec q C ln g2 d (s .under)
 
-    f4 : ℕ → Res me.Env
-    f4 i = me.ok (record { name = x; root = length (s .roots) } ∷ d) (adds-root s (ref-v (here i)) 0)
+    -- what is done with the root of y
+    next : ℕ → Res me.Env
+    next r = me.need s (read-at s (here r)) (λ z. me.need s (loc-of z) (λ l. me.need s (read-at s l) (λ k. me.need s (box-of k)
+        (λ i. me.ok (record { name = x; root = length (s .roots) } ∷ d) (adds-root s (ref-v (here i)) 0)))))
 
-    f3 : Value → Res me.Env
-    f3 z = me.need s (box-of z) f4
-
-    f2 : Loc → Res me.Env
-    f2 l = me.need s (read-at s l) f3
-
-    f1 : Value → Res me.Env
-    f1 z = me.need s (loc-of z) f2
-
-    f0 : ℕ → Res me.Env
-    f0 r = me.need s (read-at s (here r)) f1
-
-    a1 : (fresh g x ≡ true) × (if-some (ch.there g y) (λ v. goes-in g v x (v .ty)) ≡ some g2)
-    a1 = only-is (fresh g x) (if-some (ch.there g y) (λ v. goes-in g v x (v .ty))) g2 e
-
-    a2 : (v : Var) × (ch.there g y ≡ some v) × (goes-in g v x (v .ty) ≡ some g2)
-    a2 = if-some-is (ch.there g y) (λ v. goes-in g v x (v .ty)) g2 (a1 .1)
+    i1 : Inside-rule g x y g2
+    i1 = inside-rule q g x y g2 e
 
     v : Var
-    v = a2 .0
+    v = i1 .var1
 
     th : (look g y ≡ some v) × (v .gone ≡ false)
-    th = there-is g y v (a2 .1)
+    th = there-is g y v (i1 .is-there)
 
     y-is : v .name ≡ y
     y-is = look-name g y v (th .0)
@@ -131,7 +119,7 @@ inside-step q m u C ln g g2 d F T s x y e sc w = by-type (v .ty) (pl .type) (a2 
     finish : (al : Bool) (tu : Ty) (a : Addr) (ls : List Level-loan) (tb : Ty) (L : List Level-loan) (ms : List Loan) (val : Value)
         → Holds (s .roots) (rooted (pl .root) 0) val → Kind-fits tb (borrow al tu (in-addr a) L) → Loans-cover (length C) ln g ms L
         → some (enter g x tb ms) ≡ some g2 → (ib : In-box (q .datas) N T s tu a val)
-        → Invariant (q .datas) (borrow-entry al tu (in-addr a) L (ref-v (here (ib .box1))) ∷ N) (hole-t ∷ T) s → Safe P (me.need s (root-of d y) f0)
+        → Invariant (q .datas) (borrow-entry al tu (in-addr a) L (ref-v (here (ib .box1))) ∷ N) (hole-t ∷ T) s → Safe P (me.need s (root-of d y) next)
     finish al tu a ls tb L ms val ce su cov g-is ib w2 =
         safe-need P _ _ _ (pl .named)
         (safe-need P _ _ _ (reads s (pl .root) val 0 ce)
@@ -147,7 +135,8 @@ inside-step q m u C ln g g2 d F T s x y e sc w = by-type (v .ty) (pl .type) (a2 
               subst (λ z. Scope (length C) ln z (record { name = x; root = length (s .roots) } ∷ d)
               (with-root (borrow-entry al tu (in-addr a) L (ref-v (here (ib .box1)))) (length (s .roots)) ∷ F)) (some-is g-is)
               (scope-more (length C) ln g d F x tb ms (length (s .roots))
-              (with-root (borrow-entry al tu (in-addr a) L (ref-v (here (ib .box1)))) (length (s .roots))) (a1 .0) refl refl su cov (sc .names));
+              (with-root (borrow-entry al tu (in-addr a) L (ref-v (here (ib .box1)))) (length (s .roots)))
+              (i1 .is-fresh) refl refl su cov (sc .names));
           world =
               root-mid (q .datas) [] (borrow-entry al tu (in-addr a) L (ref-v (here (ib .box1)))) (ref-v (here (ib .box1))) N (hole-t ∷ T) s refl w2;
           under = refl;
@@ -159,7 +148,7 @@ inside-step q m u C ln g g2 d F T s x y e sc w = by-type (v .ty) (pl .type) (a2 
     by-ref : (t tu : Ty) (sh : Kind) → t ≡ box tu → Kind-fits (ref t) sh → at-level (kinds N) lx ≡ some sh
         → Loans-cover (length C) ln g (v .loans) (loans-of sh)
         → Entry-ok (q .datas) (s .roots) (rooted (pl .root) 0) (v .gone) sh (pl .stands .tree) N T → some (enter g x (ref tu) (v .loans)) ≡ some g2
-        → Safe P (me.need s (root-of d y) f0)
+        → Safe P (me.need s (root-of d y) next)
     by-ref t tu (own k) bt su at1 cov fi g-is = absurd (true-false (sym (su .1) ∙ ap owned (sym (su .0))))
     by-ref t tu (borrow true k a ls) bt su at1 cov fi g-is = absurd (let z : _≡_ {A = ℕ} 0 1 = cc in omega arith)
     by-ref t tu (borrow false k a ls) bt su at1 cov fi g-is =
@@ -172,7 +161,7 @@ inside-step q m u C ln g g2 d F T s x y e sc w = by-type (v .ty) (pl .type) (a2 
 
     by-mut : (t tu : Ty) (sh : Kind) → t ≡ box tu → Kind-fits (mut t) sh → at-level (kinds N) lx ≡ some sh
         → Entry-ok (q .datas) (s .roots) (rooted (pl .root) 0) (v .gone) sh (pl .stands .tree) N T → is-free (all-loans g) (v .name) ≡ true
-        → some (enter g x (mut tu) (loan (v .name) true ∷ [])) ≡ some g2 → Safe P (me.need s (root-of d y) f0)
+        → some (enter g x (mut tu) (loan (v .name) true ∷ [])) ≡ some g2 → Safe P (me.need s (root-of d y) next)
     by-mut t tu (own k) bt su at1 fi fr g-is = absurd (true-false (sym (su .1) ∙ ap owned (sym (su .0))))
     by-mut t tu (borrow false k a ls) bt su at1 fi fr g-is = absurd (let z : _≡_ {A = ℕ} 0 1 = cc in omega arith)
     by-mut t tu (borrow true k a ls) bt su at1 fi fr g-is =
@@ -188,7 +177,7 @@ inside-step q m u C ln g g2 d F T s x y e sc w = by-type (v .ty) (pl .type) (a2 
         (ib .points) w)
     by-mut t tu inert bt su at1 fi fr g-is = absurd su
 
-    by-type : (t : Ty) → Kind-fits t (pl .en .kind) → goes-in g v x t ≡ some g2 → Safe P (me.need s (root-of d y) f0)
+    by-type : (t : Ty) → Kind-fits t (pl .en .kind) → goes-in g v x t ≡ some g2 → Safe P (me.need s (root-of d y) next)
     by-type int su e1 = absurd (no-some e1)
     by-type (dat k) su e1 = absurd (no-some e1)
     by-type (box t) su e1 = absurd (no-some e1)

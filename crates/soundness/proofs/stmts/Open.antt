@@ -1,5 +1,5 @@
 -- The step for let x = open y: what is in a box becomes a name, the box ends.
-use mathlib.Core.Bool.{true, false, _&&_}
+use mathlib.Core.Bool.{true, false}
 use mathlib.Core.List.{List, [], _∷_, _++_}
 use mathlib.Core.Logic.{inl, inr}
 use mathlib.Core.Option.{Option, some, none}
@@ -7,18 +7,18 @@ use mathlib.Core.Path.{_≡_, refl, sym, _∙_, ap, subst}
 use Prim.Native.Nat.{ℕ, zero, suc, _≤_}
 use native.Mathlib.Omega.{arith}
 use lib.ListN.{length}
-use Rattle.language.specs.Base.{choose, from-option, if-some, at-place, set-at, Lexeme, only-if}
+use Rattle.language.specs.Base.{choose, from-option, if-some, at-place, set-at, Lexeme}
 use Rattle.language.specs.Syntax.{Ty, int, dat, box, ref, mut, Data, Prog, open-s}
-use Rattle.language.specs.Checks.{Var, owned, look, fresh, set-gone, enter, is-free, all-loans, boxed-in}
+use Rattle.language.specs.Checks.{Var, owned, look, fresh, set-gone, boxed-in}
 use Rattle.language.specs.Checks as ch
-use Rattle.language.specs.Meaning.{Value, Root, State, Limits, Res, here, read-at, exec, hole, with-roots, adds-root, ends-box, write-at, box-of}
+use Rattle.language.specs.Meaning.{Value, Root, State, Limits, here, read-at, exec, hole, with-roots, adds-root, ends-box, write-at, box-of}
 use Rattle.language.specs.Meaning as me
 use Rattle.soundness.specs.Trees.{Tree, int-t, con-t, box-t, hole-t, flat, Stored, Typed}
 use Rattle.soundness.specs.Borrows.{Level-loan, Kind, own, borrow, inert}
 use Rattle.soundness.specs.Invariant.{rooted, in-flight, Entry, kinds, Content, Idle, place-sum, Invariant}
 use Rattle.soundness.specs.Frames.{Kind-fits, Scope, Frame, owned-entry}
 use Rattle.soundness.specs.Preserved.{safe-ok, Safe, After-exec}
-use Rattle.soundness.proofs.Basics.{no-some, some-is, if-some-is, only-is, true-false, and-left, and-right}
+use Rattle.soundness.proofs.Basics.{no-some, some-is, true-false}
 use Rattle.soundness.proofs.loans.Stack.{push-own, push-inert, pop-borrows}
 use Rattle.soundness.proofs.invariant.Top.{typed-owned, words-pos, with-root, shell, end-box-top, reads, ended-under}
 use Rattle.soundness.proofs.invariant.Replace.{Wrote, writes, removed-entry}
@@ -30,6 +30,7 @@ use Rattle.soundness.proofs.frames.Names.{name-entry}
 use Rattle.soundness.proofs.frames.Moves.{Swapped, move-name}
 use Rattle.soundness.proofs.Safety.{safe-need}
 use Rattle.soundness.proofs.stmts.Stores.{typed-there}
+use Rattle.soundness.proofs.statics.Inversion.{Open-rule, open-rule}
 
 -- a box in flight, under the box that's to end: what's in it, in flight
 open-shell : (ds : List Data) (e : Entry) (N : List Entry) (r w : ℕ) (x : Tree) (t : Ty) (T : List Tree) (s : State) (v : Value) → e .at ≡ in-flight v
@@ -128,44 +129,20 @@ open-step q m u C ln g g2 d F T s x y e sc w =
     P : me.Env → State → Type 0
     P = After-exec q C ln g2 d (s .under)
 
-    f5 : ℕ → Value → State → Res me.Env
-    f5 k v t = me.ok (record { name = x; root = length (t .roots) } ∷ d) (adds-root (ends-box t k) v 0)
-
-    f4 : ℕ → ℕ → Value → Res me.Env
-    f4 r k v = me.need s (write-at s (here r) hole) (f5 k v)
-
-    f3 : ℕ → ℕ → Res me.Env
-    f3 r k = me.need s (read-at s (here k)) (f4 r k)
-
-    f2 : ℕ → Value → Res me.Env
-    f2 r v = me.need s (box-of v) (f3 r)
-
-    f1 : ℕ → Res me.Env
-    f1 r = me.need s (read-at s (here r)) (f2 r)
-
-    a1 : (v : Var) × (ch.there g y ≡ some v)
-        × (if-some (boxed-in (v .ty)) (λ t. only-if (fresh g x && is-free (all-loans g) y) (some (enter (set-gone true g y) x t []))) ≡ some g2)
-    a1 =
-        if-some-is (ch.there g y) (λ v. if-some (boxed-in (v .ty))
-        (λ t. only-if (fresh g x && is-free (all-loans g) y) (some (enter (set-gone true g y) x t [])))) g2 e
+    i1 : Open-rule g x y g2
+    i1 = open-rule q g x y g2 e
 
     v : Var
-    v = a1 .0
-
-    a2 : (t : Ty) × (boxed-in (v .ty) ≡ some t) × (only-if (fresh g x && is-free (all-loans g) y) (some (enter (set-gone true g y) x t [])) ≡ some g2)
-    a2 = if-some-is (boxed-in (v .ty)) (λ t. only-if (fresh g x && is-free (all-loans g) y) (some (enter (set-gone true g y) x t []))) g2 (a1 .2)
+    v = i1 .var1
 
     tb : Ty
-    tb = a2 .0
-
-    a3 : (fresh g x && is-free (all-loans g) y ≡ true) × (some (enter (set-gone true g y) x tb []) ≡ some g2)
-    a3 = only-is (fresh g x && is-free (all-loans g) y) (some (enter (set-gone true g y) x tb [])) g2 (a2 .2)
+    tb = i1 .content
 
     th : (look g y ≡ some v) × (v .gone ≡ false)
-    th = there-is g y v (a1 .1)
+    th = there-is g y v (i1 .is-there)
 
     ty-is : v .ty ≡ box tb
-    ty-is = boxed-is (v .ty) tb (a2 .1)
+    ty-is = boxed-is (v .ty) tb (i1 .is-box)
 
     ow : owned tb ≡ true
     ow =
@@ -173,7 +150,7 @@ open-step q m u C ln g g2 d F T s x y e sc w =
         fits-owned tb (en .en .kind) (subst (λ z. Kind-fits z (en .en .kind)) ty-is (en .type))
 
     sw : Swapped (q .datas) C ln g d [] y v true hole-t s
-    sw = move-name (q .datas) C ln [] g d [] F y v T s sc (th .0) (ap owned ty-is ∙ ow) (and-right (fresh g x) (is-free (all-loans g) y) (a3 .0)) w
+    sw = move-name (q .datas) C ln [] g d [] F y v T s sc (th .0) (ap owned ty-is ∙ ow) (i1 .free) w
 
     s2 : State
     s2 = sw .s2
@@ -217,15 +194,14 @@ open-step q m u C ln g g2 d F T s x y e sc w =
       T = w2 .0;
       names =
           subst (λ z. Scope (length C) ln z (record { name = x; root = length (s2 .roots) } ∷ d)
-          (with-root (owned-entry cont tb) (length (s3 .roots)) ∷ sw .F)) (some-is (a3 .1)) (
+          (with-root (owned-entry cont tb) (length (s3 .roots)) ∷ sw .F)) (i1 .behind) (
             record {
               name = refl;
               place = ap (λ z. rooted z 0) (ended-length s2 i);
               flag = refl;
               type = (refl, ow);
               loans = λ l k. absurd k;
-              fresh = fresh-like g (set-gone true g y) x (like-gone true g y)
-                  (fresh-none g x (and-left (fresh g x) (is-free (all-loans g) y) (a3 .0)));
+              fresh = fresh-like g (set-gone true g y) x (like-gone true g y) (fresh-none g x (i1 .is-fresh));
             },
             sw .names,
           );

@@ -6,9 +6,9 @@ use mathlib.Core.Path.{_≡_, refl, _∙_, subst}
 use Prim.Native.Nat.{ℕ, suc}
 use lib.Dec.{eqb}
 use lib.ListN.{length}
-use Rattle.language.specs.Base.{choose, if-some, Lexeme, only-if}
+use Rattle.language.specs.Base.{choose, Lexeme}
 use Rattle.language.specs.Syntax.{int, Expr, Stmts, Prog, bind, put-s, cond, loop}
-use Rattle.language.specs.Checks.{same-ty, fresh, enter, outer, both, no-more-gone}
+use Rattle.language.specs.Checks.{fresh, outer}
 use Rattle.language.specs.Checks as ch
 use Rattle.language.specs.Meaning.{State, Limits, Res, eval, block, exec, num-of, shows}
 use Rattle.language.specs.Meaning as me
@@ -17,16 +17,15 @@ use Rattle.soundness.specs.Borrows.{Level-loan}
 use Rattle.soundness.specs.Invariant.{Entry, Invariant}
 use Rattle.soundness.specs.Frames.{Scope, Value-entry, Frame}
 use Rattle.soundness.specs.Preserved.{safe-ok, Safe, After-exec, Preserved}
-use Rattle.soundness.proofs.Basics.{some-is, if-some-is, only-is}
 use Rattle.soundness.proofs.invariant.Top.{invariant-same, with-root, pop-int}
 use Rattle.soundness.proofs.invariant.Rooting.{root-mid}
 use Rattle.soundness.proofs.invariant.Flags.{Weaker}
 use Rattle.soundness.proofs.invariant.Values.{top-int}
 use Rattle.soundness.proofs.statics.Exprs.{like-then, expr-like}
-use Rattle.soundness.proofs.statics.Rules.{as-int-is, same-ty-is}
 use Rattle.soundness.proofs.statics.Scopes.{scope-distinct, like-distinct, like-sym, both-left, both-right, not-more-gone, fresh-none, outer-like}
 use Rattle.soundness.proofs.statics.Stmts.{stmts-grows}
-use Rattle.soundness.proofs.Safety.{safe-then, safe-need, safe-turn, safe-choose, safe-weaken, after-weak}
+use Rattle.soundness.proofs.Safety.{safe-then, safe-need, safe-turn, safe-choose, safe-weaken, after-weak, turned}
+use Rattle.soundness.proofs.statics.Inversion.{bind-rule, put-rule, cond-rule, loop-rule}
 
 -- let x = e
 pub bind-step : (q : Prog) (m : Limits) (u : ℕ) → Preserved q m u
@@ -35,10 +34,8 @@ pub bind-step : (q : Prog) (m : Limits) (u : ℕ) → Preserved q m u
     → Safe (After-exec q C ln g2 d (s .under)) (exec (suc u) m q d (bind x e1) s)
 unfolding me.eval
 bind-step q m u h C ln g g2 d F T s x e1 e sc w =
-    let y = if-some-is (ch.expr q [] g e1) (λ r. only-if (fresh (r .env) x) (some (enter (r .env) x (r .ty) (r .loans)))) g2 e in
-    let r = y .0 in
-    let z = only-is (fresh (r .env) x) (some (enter (r .env) x (r .ty) (r .loans))) g2 (y .2) in
-    safe-then (After-exec q C ln g2 d (s .under)) (h .eval-ok C ln [] g d [] F T s e1 r (y .1) sc w)
+    let i = bind-rule q g x e1 g2 e in
+    safe-then (After-exec q C ln g2 d (s .under)) (h .eval-ok C ln [] g d [] F T s e1 (i .result) (i .is-expr) sc w)
     (λ v t a. safe-ok (record {
       newer = record { name = x; root = length (t .roots) } ∷ [];
       grown = refl;
@@ -46,15 +43,14 @@ bind-step q m u h C ln g g2 d F T s x e1 e sc w =
       T = a .T;
       names =
           subst (λ k. Scope (length C) ln k (record { name = x; root = length (t .roots) } ∷ d) (with-root (a .top) (length (t .roots)) ∷ a .F))
-          (some-is (z .1)) (
+          (i .behind) (
             record {
               name = refl;
               place = refl;
               flag = a .flight .flag;
               type = a .flight .type;
               loans = a .covered;
-              fresh = fresh-none (r .env) x
-                  (z .0);
+              fresh = fresh-none (i .result .env) x (i .is-fresh);
             },
             a .names,
           );
@@ -65,13 +61,13 @@ bind-step q m u h C ln g g2 d F T s x e1 e sc w =
 -- an int is computed, then what's to be done with it
 pub int-then : (q : Prog) (m : Limits) (u : ℕ) → Preserved q m u
     → {A : Type 0} (Q : A → State → Type 0) (f : State → ℕ → Res A) (C : List Entry) (ln : List Level-loan) (g : ch.Env) (d : me.Env) (F : List Entry)
-    (T : List Tree) (s : State) (e1 : Expr) (r : ch.Typed) → ch.expr q [] g e1 ≡ some r → same-ty (r .ty) int ≡ true → Frame C ln [] g d [] F
+    (T : List Tree) (s : State) (e1 : Expr) (r : ch.Typed) → ch.expr q [] g e1 ≡ some r → r .ty ≡ int → Frame C ln [] g d [] F
     → Invariant (q .datas) (F ++ C) T s
     → ((k : ℕ) (F2 : List Entry) (T2 : List Tree) (t : State) → t .under ≡ s .under → Frame C ln [] (r .env) d [] F2
     → Invariant (q .datas) (F2 ++ C) T2 t → Safe Q (f t k)) → Safe Q (me.then (eval u m q d e1 s) (λ v t. me.need t (num-of v) (f t)))
 int-then q m u h {A} Q f C ln g d F T s e1 r e ty sc w go =
     safe-then Q (h .eval-ok C ln [] g d [] F T s e1 r e sc w)
-    (λ v t a. (let fl : Value-entry v int (a .top) = subst (λ z. Value-entry v z (a .top)) (same-ty-is (r .ty) int ty) (a .flight) in
+    (λ v t a. (let fl : Value-entry v int (a .top) = subst (λ z. Value-entry v z (a .top)) ty (a .flight) in
     let nm = top-int (q .datas) (a .top) (a .F ++ C) (a .T) t v fl (a .world) in
     let po = pop-int (q .datas) (a .top) (a .F ++ C) (a .T) t v fl (a .world) in
     safe-need Q _ _ _ (nm .2)
@@ -84,15 +80,14 @@ pub show-step : (q : Prog) (m : Limits) (u : ℕ) → Preserved q m u
     → Safe (After-exec q C ln g2 d (s .under)) (exec (suc u) m q d (put-s e1) s)
 unfolding me.eval
 show-step q m u h C ln g g2 d F T s e1 e sc w =
-    let y = as-int-is (ch.expr q [] g e1) (λ k. some k) g2 e in
-    int-then q m u h (After-exec q C ln g2 d (s .under)) (λ t k. me.ok d (shows t k)) C ln g d F T s e1 (y .0) (y .1) (y .2) sc w
+    let i = put-rule q g e1 g2 e in
+    int-then q m u h (After-exec q C ln g2 d (s .under)) (λ t k. me.ok d (shows t k)) C ln g d F T s e1 (i .result) (i .is-expr) (i .is-int) sc w
     (λ k F2 T2 t un sc2 w2. safe-ok (record {
       newer = [];
       grown = refl;
       F = F2;
       T = T2;
-      names = subst (λ z. Scope (length C) ln z d F2) (some-is (y .3))
-          (sc2 .names);
+      names = subst (λ z. Scope (length C) ln z d F2) (i .behind) (sc2 .names);
       world = invariant-same (q .datas) (F2 ++ C) T2 t (shows t k) refl refl w2;
       under = un;
     }))
@@ -113,24 +108,20 @@ pub cond-step : (q : Prog) (m : Limits) (u : ℕ) → Preserved q m u
     → Safe (After-exec q C ln g2 d (s .under)) (exec (suc u) m q d (cond e1 f1 f2) s)
 unfolding me.eval
 cond-step q m u h C ln g g2 d F T s e1 f1 f2 e sc w =
-    let y = as-int-is (ch.expr q [] g e1) (λ k. if-some (ch.stmts q k f1)
-    (λ i. if-some (ch.stmts q k f2) (λ j. some (both (outer k i) (outer k j))))) g2 e in
-    let gr = y .0 .env in
-    let y2 = if-some-is (ch.stmts q gr f1) (λ i. if-some (ch.stmts q gr f2) (λ j. some (both (outer gr i) (outer gr j)))) g2 (y .3) in
-    let y3 = if-some-is (ch.stmts q gr f2) (λ j. some (both (outer gr (y2 .0)) (outer gr j))) g2 (y2 .2) in
+    let i = cond-rule q g e1 f1 f2 g2 e in
+    let gr = i .result .env in
     let P = After-exec q C ln g2 d (s .under) in
-    int-then q m u h P (λ t k. block u m q d d (choose (eqb k 0) f2 f1) t) C ln g d F T s e1 (y .0) (y .1) (y .2) sc w
+    int-then q m u h P (λ t k. block u m q d d (choose (eqb k 0) f2 f1) t) C ln g d F T s e1 (i .result) (i .is-expr) (i .is-int) sc w
     (λ k F2 T2 t un sc2 w2. (let di = scope-distinct (length C) ln gr d F2 (sc2 .names) in
-    let l1 = outer-like gr (y2 .0) (stmts-grows q gr f1 (y2 .0) di (y2 .1)) in
-    let l2 = outer-like gr (y3 .0) (stmts-grows q gr f2 (y3 .0) di (y3 .1)) in
+    let l1 = outer-like gr (i .yes) (stmts-grows q gr f1 (i .yes) di (i .is-yes)) in
+    let l2 = outer-like gr (i .no) (stmts-grows q gr f2 (i .no) di (i .is-no)) in
+    let alike = like-then (outer gr (i .yes)) gr (outer gr (i .no)) (like-sym gr (outer gr (i .yes)) l1) l2 in
     elim (eqb k 0) as (λ z. Safe P (block u m q d d (choose z f2 f1) t)) [
-      | true ↦ own-block q m u h C ln gr (y3 .0) g2 d F2 T2 t f2 (s .under) (y3 .1)
-          (subst (Weaker (outer gr (y3 .0))) (some-is (y3 .2))
-          (both-right (outer gr (y2 .0)) (outer gr (y3 .0))
-          (like-then (outer gr (y2 .0)) gr (outer gr (y3 .0)) (like-sym gr (outer gr (y2 .0)) l1) l2)
-          (like-distinct gr (outer gr (y3 .0)) l2 di))) un sc2 w2
-      | false ↦ own-block q m u h C ln gr (y2 .0) g2 d F2 T2 t f1 (s .under) (y2 .1)
-          (subst (Weaker (outer gr (y2 .0))) (some-is (y3 .2)) (both-left (outer gr (y2 .0)) (outer gr (y3 .0)))) un sc2 w2
+      | true ↦ own-block q m u h C ln gr (i .no) g2 d F2 T2 t f2 (s .under) (i .is-no)
+          (subst (Weaker (outer gr (i .no))) (i .behind)
+          (both-right (outer gr (i .yes)) (outer gr (i .no)) alike (like-distinct gr (outer gr (i .no)) l2 di))) un sc2 w2
+      | false ↦ own-block q m u h C ln gr (i .yes) g2 d F2 T2 t f1 (s .under) (i .is-yes)
+          (subst (Weaker (outer gr (i .yes))) (i .behind) (both-left (outer gr (i .yes)) (outer gr (i .no)))) un sc2 w2
     ]))
 
 -- while e
@@ -140,38 +131,32 @@ pub loop-step : (q : Prog) (m : Limits) (u : ℕ) → Preserved q m u
     → Safe (After-exec q C ln g2 d (s .under)) (exec (suc u) m q d (loop e1 f1) s)
 unfolding me.eval
 loop-step q m u h C ln g g2 d F T s e1 f1 e sc w =
-    let y = as-int-is (ch.expr q [] g e1) (λ k. if-some (ch.stmts q k f1) (λ i. only-if (no-more-gone g (outer k i)) (some k))) g2 e in
-    let gr = y .0 .env in
-    let y2 = if-some-is (ch.stmts q gr f1) (λ i. only-if (no-more-gone g (outer gr i)) (some gr)) g2 (y .3) in
-    let z = only-is (no-more-gone g (outer gr (y2 .0))) (some gr) g2 (y2 .2) in
-    let lk = expr-like q [] g e1 (y .0) (y .1) in
+    let i = loop-rule q g e1 f1 g2 e in
+    let gr = i .result .env in
+    let lk = expr-like q [] g e1 (i .result) (i .is-expr) in
     let P = After-exec q C ln g2 d (s .under) in
-    let again : me.Env → State → Res me.Env = λ i t. me.turn m t (λ t2. exec u m q d (loop e1 f1) t2) in
-    int-then q m u h P (λ t k. choose (eqb k 0) (me.ok d t) (me.then (block u m q d d f1 t) again)) C ln g d F T s e1 (y .0) (y .1) (y .2) sc w
+    let again : me.Env → State → Res me.Env = λ d2 t. me.turn m t (λ t2. exec u m q d (loop e1 f1) t2) in
+    int-then q m u h P (λ t k. choose (eqb k 0) (me.ok d t) (me.then (block u m q d d f1 t) again)) C ln g d F T s e1 (i .result)
+    (i .is-expr) (i .is-int) sc w
     (λ k F2 T2 t un sc2 w2. (let di = scope-distinct (length C) ln gr d F2 (sc2 .names) in
-    let l1 = outer-like gr (y2 .0) (stmts-grows q gr f1 (y2 .0) di (y2 .1)) in
-    let wk = not-more-gone g (outer gr (y2 .0)) (like-then g gr (outer gr (y2 .0)) lk l1) (like-distinct gr (outer gr (y2 .0)) l1 di) (z .0) in
+    let l1 = outer-like gr (i .round) (stmts-grows q gr f1 (i .round) di (i .is-round)) in
+    let wk = not-more-gone g (outer gr (i .round)) (like-then g gr (outer gr (i .round)) lk l1) (like-distinct gr (outer gr (i .round)) l1 di)
+    (i .nothing-moved) in
     safe-choose P (eqb k 0)
-    (λ yes1. safe-ok (record {
+    (λ _. safe-ok (record {
       newer = [];
       grown = refl;
       F = F2;
       T = T2;
-      names = subst (λ j. Scope (length C) ln j d F2) (some-is (z .1)) (sc2 .names);
+      names = subst (λ j. Scope (length C) ln j d F2) (i .behind) (sc2 .names);
       world = w2;
       under = un;
     }))
-    (λ no1. safe-then P (h .block-ok C ln [] gr (y2 .0) [] d F2 T2 t f1 (y2 .1) refl sc2 w2)
-    (λ i t2 a. (let b = after-weak q C ln (outer gr (y2 .0)) g d (t .under) i t2 wk (a .1) in
-    let t3 : State = record {
-      roots = t2 .roots;
-      classes = t2 .classes;
-      under = t2 .under;
-      turns = suc (t2 .turns);
-      ins = t2 .ins;
-      outs = t2 .outs;
-    } in
-    safe-turn P _ _ _ (subst (λ j. Safe (After-exec q C ln g2 d j) (exec u m q d (loop e1 f1) t3)) (b .under ∙ un)
-    (h .exec-ok C ln g g2 d (b .F) (b .T) t3 (loop e1 f1) e
-    (record { names = subst (λ j. Scope (length C) ln g j (b .F)) (a .0) (b .names); above = λ l j. absurd j; under = sc .under })
-    (invariant-same (q .datas) (b .F ++ C) (b .T) t2 t3 refl refl (b .world)))))))))
+    (λ _. safe-then P (h .block-ok C ln [] gr (i .round) [] d F2 T2 t f1 (i .is-round) refl sc2 w2)
+    (λ d2 t2 a. (let b = after-weak q C ln (outer gr (i .round)) g d (t .under) d2 t2 wk (a .1) in
+    let sc3 : Frame C ln [] g d [] (b .F)
+    = record { names = subst (λ j. Scope (length C) ln g j (b .F)) (a .0) (b .names); above = λ l j. absurd j; under = sc .under } in
+    safe-turn P _ _ _
+    (subst (λ j. Safe (After-exec q C ln g2 d j) (exec u m q d (loop e1 f1) (turned t2))) (b .under ∙ un)
+    (h .exec-ok C ln g g2 d (b .F) (b .T) (turned t2) (loop e1 f1) e sc3
+    (invariant-same (q .datas) (b .F ++ C) (b .T) t2 (turned t2) refl refl (b .world)))))))))
