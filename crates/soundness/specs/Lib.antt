@@ -7,3 +7,4 @@ pub mod Invariant
 pub mod Frames
 pub mod Preserved
 pub mod References
+pub mod Counterexamples

@@ -2,6 +2,7 @@ ghost use Rattle.language.specs.Says.{«Never-wrong», «Nothing-left», «Enou
 ghost use Rattle.soundness.specs.Fuel.{«Fuel-for-any»};
 ghost use Rattle.soundness.specs.Preserved.{«Invariant-kept»};
 ghost use Rattle.soundness.specs.References.{«There-typed», «Reference-valid», «None-into-free», «None-below-free», «References-down»};
+ghost use Rattle.soundness.specs.Counterexamples.{«Rules-needed»};
 ghost use Rattle.soundness.specs.Numbers.{«Shown-grows», «Words-kept», «Shown-small»};
 
 // Each function here is a theorem: its contract is the statement, and there is nothing to compute.
@@ -37,6 +38,13 @@ pub fn fuel_for_any() -> u8
 // More fuel doesn't change a result that isn't out of fuel.
 pub fn more_fuel() -> u8
     ensures { λ _. ⌜ «More-fuel» ⌝ }
+{
+    0
+}
+
+// Seven programs, one for each rule that cannot be left out: each is refused, and it goes wrong.
+pub fn rules_needed() -> u8
+    ensures { λ _. ⌜ «Rules-needed» ⌝ }
 {
     0
 }

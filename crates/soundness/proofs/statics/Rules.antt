@@ -5,9 +5,9 @@ use mathlib.Core.Option.{Option, some, none}
 use mathlib.Core.Path.{_≡_, refl, sym, _∙_, ap}
 use Rattle.language.specs.Base.{if-some, Lexeme, only-if}
 use Rattle.language.specs.Syntax.{Ty, int, dat, box, ref, mut}
-use Rattle.language.specs.Checks.{Loan, Var, same-ty, Env, look, Typed, as-int}
+use Rattle.language.specs.Checks.{Loan, Var, same-ty, look}
 use Rattle.language.specs.Checks as ch
-use Rattle.soundness.proofs.Basics.{no-some, some-is, if-some-is, only-is, true-false, same-is}
+use Rattle.soundness.proofs.Basics.{no-some, some-is, only-is, true-false, same-is}
 
 -- the rules' small tests
 pub there-is : (g : ch.Env) (x : Lexeme) (v : Var) → ch.there g x ≡ some v → (look g x ≡ some v) × (v .gone ≡ false)
@@ -20,13 +20,6 @@ there-is g x v e = go (look g x) e
     go : (o : Option Var) → if-some o (λ y. only-if (not (y .gone)) (some y)) ≡ some v → (o ≡ some v) × (v .gone ≡ false)
     go none e1 = absurd (no-some e1)
     go (some y) e1 = go2 y (y .gone) refl e1
-
-pub as-int-is : (o : Option Typed) (f : Env → Option Env) (g2 : Env) → as-int o f ≡ some g2
-    → (r : Typed) × (o ≡ some r) × (same-ty (r .ty) int ≡ true) × (f (r .env) ≡ some g2)
-as-int-is o f g2 e =
-    let y = if-some-is o (λ r. only-if (same-ty (r .ty) int) (f (r .env))) g2 e in
-    let z = only-is (same-ty (y .0 .ty) int) (f (y .0 .env)) g2 (y .2) in
-    (y .0, y .1, z .0, z .1)
 
 pub same-ty-is : (t u : Ty) → same-ty t u ≡ true → t ≡ u
 same-ty-is int int e = refl
