@@ -46,7 +46,7 @@ abbrev pub None-below-free : Type 0
 None-below-free =
     (ds : List Data) (C : List Entry) (ln : List Level-loan) (held : List Loan) (g : ch.Env) (d : me.Env) (H F : List Entry) (T : List Tree)
     (s : State) (x : Lexeme) (lx : ℕ) (u : Ty) (ax : Addr) (lx-loans : List Level-loan) → Frame C ln held g d H F → Invariant ds (H ++ (F ++ C)) T s
-    → is-free (held ++ all-loans g) x ≡ true → name-level (length C) g x ≡ some lx
+    → name-level (length C) g x ≡ some lx → is-free (held ++ all-loans g) x ≡ true
     → at-level (kinds (H ++ (F ++ C))) lx ≡ some (borrow true u ax lx-loans)
     → (j : ℕ) (al : Bool) (t : Ty) (a : Addr) (ls : List Level-loan) → at-level (kinds (H ++ (F ++ C))) j ≡ some (borrow al t a ls)
     → ax .owner ≡ a .owner → Strictly-below (ax .path) (a .path) → ⊥

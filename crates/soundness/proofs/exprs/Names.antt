@@ -124,15 +124,12 @@ module _ (q : Prog) (C : List Entry) (ln : List Level-loan) (held : List Loan) (
   as-value int t-is e =
       safe-need Q _ _ _ (pl .named) (by-sh (pl .en .kind) (pl .type) (pl .fine2))
     where
-      ok1 : (readable (held ++ all-loans g) (v .name) ≡ true) × (typed int [] g ≡ some r)
-      ok1 = only-is (readable (held ++ all-loans g) (v .name)) (typed int [] g) r e
-
       by-sh : (sh : Kind) → Kind-fits (v .ty) sh → Fi sh → Safe Q (me.need s (read-at s (here (pl .root))) (λ z. moves s (pl .root) z))
       by-sh (own t) su fi =
           let k = typed-int ds (pl .stands .tree) (subst (Typed ds (pl .stands .tree)) (sym (su .0) ∙ t-is)
           (not-gone ds (v .gone) t (pl .stands .tree) there1 (fi .3))) in
           safe-need Q _ _ _ (reads s (pl .root) (flat (pl .stands .tree)) 0 (fi .0) ∙ ap {B = Option Value} (λ z. some z) (k .1))
-          (safe-ok (int-after q C ln g d H F T s (k .0) (s .under) r (ok1 .1) (sc .names) w refl))
+          (safe-ok (int-after q C ln g d H F T s (k .0) (s .under) r (only-is _ _ r e .1) (sc .names) w refl))
       by-sh (borrow true t a ls) su fi = absurd (let k : int ≡ mut t = sym t-is ∙ su in true-false (ap owned k))
       by-sh (borrow false t a ls) su fi = absurd (let k : int ≡ ref t = sym t-is ∙ su in true-false (ap owned k))
       by-sh inert su fi = absurd su
@@ -145,9 +142,6 @@ module _ (q : Prog) (C : List Entry) (ln : List Level-loan) (held : List Loan) (
   as-value (ref t) t-is e =
       safe-need Q _ _ _ (pl .named) (by-sh (pl .en .kind) (pl .type) (pl .at-sh) (pl .loans) (pl .fine2))
     where
-      ok1 : (readable (held ++ all-loans g) (v .name) ≡ true) × (typed (ref t) (v .loans) g ≡ some r)
-      ok1 = only-is (readable (held ++ all-loans g) (v .name)) (typed (ref t) (v .loans) g) r e
-
       by-sh : (sh : Kind) → Kind-fits (v .ty) sh → at-level (kinds N) (pl .level) ≡ some sh → Loans-cover (length C) ln g (v .loans) (loans-of sh)
           → Fi sh → Safe Q (me.need s (read-at s (here (pl .root))) (λ z. moves s (pl .root) z))
       by-sh (own u) su at-sh cov fi = absurd (true-false (sym (su .1) ∙ ap owned (sym (su .0) ∙ t-is)))
@@ -156,7 +150,7 @@ module _ (q : Prog) (C : List Entry) (ln : List Level-loan) (held : List Loan) (
           let pt = fi .1 .2 in
           let val : Value = ref-v (loc-down (here (pt .root)) (a .path) (pt .whole)) in
           safe-need Q _ _ _ (reads s (pl .root) (fi .1 .0) 0 (fi .1 .1) ∙ ap {B = Option Value} (λ z. some z) (pt .value))
-          (safe-ok (ref-after q C ln g d H F T s false u a ls val (ref t) (v .loans) r (ok1 .1) (sym t-is ∙ su) cov (sc .names)
+          (safe-ok (ref-after q C ln g d H F T s false u a ls val (ref t) (v .loans) r (only-is _ _ r e .1) (sym t-is ∙ su) cov (sc .names)
           (push-copy ds N T s (pl .level) u a a ls u val at-sh (prefix-self a) (subst (Valid-ref ds N T u a) (pt .value) pt) w)))
       by-sh inert su at-sh cov fi = absurd su
   as-value (mut t) t-is e =

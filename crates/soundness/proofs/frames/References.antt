@@ -48,7 +48,7 @@ none-into-free ds C ln held g d H F T s x v lx fr w lk ow free lv j al t a ls at
     none-into (kinds (H ++ (F ++ C))) (w .borrows) lx (v .ty) at-x (free-at ds C ln held g d H F T s x lx fr w lv free) j al t a ls at-j into
 
 pub none-below-free : None-below-free
-none-below-free ds C ln held g d H F T s x lx u ax lx-loans fr w free lv at-x j al t a ls at-j same-owner below =
+none-below-free ds C ln held g d H F T s x lx u ax lx-loans fr w lv free at-x j al t a ls at-j same-owner below =
     none-below (kinds (H ++ (F ++ C))) (w .borrows .exclusivity) lx (borrow true u ax lx-loans) ax at-x refl refl
     (free-at ds C ln held g d H F T s x lx fr w lv free) j (borrow al t a ls) a at-j refl same-owner below
 

@@ -137,7 +137,7 @@ module _ (q : Prog) (o : ch.accepts q ≡ true) (C : List Entry) (ln : List Leve
     by-type : (w : Access) (ty : Ty) → v .ty ≡ ty → looks-at q g v w ty ≡ some mm → Looked q C ln mm d w l k vs s
     by-type take int e h = absurd (no-some h)
     by-type take (dat D) e h =
-        let f = only-is (is-free (all-loans g) (v .name)) (matched (data-named (q .datas) D) [] (set-gone true g (v .name))) mm h in
+        let f = only-is _ (matched (data-named (q .datas) D) [] (set-gone true g (v .name))) mm h in
         let m = matched-is (data-named (q .datas) D) [] (set-gone true g (v .name)) mm (f .1) in
         looked-take q o C ln g d F T s x v D mm l k vs sc (is-there .0) (is-there .1) e (subst (λ y. is-free (all-loans g) y ≡ true) name-is (f .0))
         (m .0) (m .1) (m .2 ∙ ap (set-gone true g) name-is) lk wo
@@ -146,19 +146,19 @@ module _ (q : Prog) (o : ch.accepts q ≡ true) (C : List Entry) (ln : List Leve
     by-type take (mut t) e h = absurd (no-some h)
     by-type view int e h = absurd (no-some h)
     by-type view (dat D) e h =
-        let f = only-is (readable (all-loans g) (v .name)) (matched (data-named (q .datas) D) (loan (v .name) false ∷ []) g) mm h in
+        let f = only-is _ (matched (data-named (q .datas) D) (loan (v .name) false ∷ []) g) mm h in
         let m = matched-is (data-named (q .datas) D) (loan (v .name) false ∷ []) g mm (f .1) in
         let z-is = fits-dat D (pl .en .kind) (subst (λ y. Kind-fits y (pl .en .kind)) e (pl .type)) in
         by-name view false (λ t a L. refl) refl refl D (own (dat D)) z-is refl (own-seen D z-is) (m .0) (m .1) (m .2) (f .0)
     by-type view (box t) e h = absurd (no-some h)
     by-type view (ref t) e h =
-        let f = only-is (readable (all-loans g) (v .name)) (matched (data-of q t) (v .loans) g) mm h in
+        let f = only-is _ (matched (data-of q t) (v .loans) g) mm h in
         let m = matched-is (data-of q t) (v .loans) g mm (f .1) in
         let D = data-of-is q t (mm .data1) (m .0) in
         let z = fits-ref t (pl .en .kind) (subst (λ y. Kind-fits y (pl .en .kind)) e (pl .type)) in
         by-ref (D .0) (z .0) (z .1) (z .2 ∙ ap (λ y. borrow false y (z .0) (z .1)) (D .1)) (D .2) (m .1) (m .2)
     by-type view (mut t) e h =
-        let f = only-is (readable (all-loans g) (v .name)) (matched (data-of q t) (loan (v .name) false ∷ []) g) mm h in
+        let f = only-is _ (matched (data-of q t) (loan (v .name) false ∷ []) g) mm h in
         let m = matched-is (data-of q t) (loan (v .name) false ∷ []) g mm (f .1) in
         let D = data-of-is q t (mm .data1) (m .0) in
         let z = fits-mut t (pl .en .kind) (subst (λ y. Kind-fits y (pl .en .kind)) e (pl .type)) in
@@ -167,14 +167,14 @@ module _ (q : Prog) (o : ch.accepts q ≡ true) (C : List Entry) (ln : List Leve
         (ref-seen (D .0) true (z .0) (z .1) z-is) (D .2) (m .1) (m .2) (f .0)
     by-type edit int e h = absurd (no-some h)
     by-type edit (dat D) e h =
-        let f = only-is (is-free (all-loans g) (v .name)) (matched (data-named (q .datas) D) (loan (v .name) true ∷ []) g) mm h in
+        let f = only-is _ (matched (data-named (q .datas) D) (loan (v .name) true ∷ []) g) mm h in
         let m = matched-is (data-named (q .datas) D) (loan (v .name) true ∷ []) g mm (f .1) in
         let z-is = fits-dat D (pl .en .kind) (subst (λ y. Kind-fits y (pl .en .kind)) e (pl .type)) in
         by-name edit true (λ t a L. refl) refl refl D (own (dat D)) z-is refl (own-seen D z-is) (m .0) (m .1) (m .2) (f .0)
     by-type edit (box t) e h = absurd (no-some h)
     by-type edit (ref t) e h = absurd (no-some h)
     by-type edit (mut t) e h =
-        let f = only-is (is-free (all-loans g) (v .name)) (matched (data-of q t) (loan (v .name) true ∷ []) g) mm h in
+        let f = only-is _ (matched (data-of q t) (loan (v .name) true ∷ []) g) mm h in
         let m = matched-is (data-of q t) (loan (v .name) true ∷ []) g mm (f .1) in
         let D = data-of-is q t (mm .data1) (m .0) in
         let z = fits-mut t (pl .en .kind) (subst (λ y. Kind-fits y (pl .en .kind)) e (pl .type)) in

@@ -8,7 +8,7 @@ use Prim.Native.Nat.{ℕ, suc}
 use lib.ListN.{length}
 use Rattle.language.specs.Base.{from-option, Lexeme}
 use Rattle.language.specs.Syntax.{Ty, int, dat, box, ref, mut, Access, Alts, Arms, Data, Prog, take, view, edit, match-s, give-match, Ctor}
-use Rattle.language.specs.Checks.{Var, Matched, loan, look, is-free, readable, all-loans, outer, bind-all, looks-at, matched, data-of, covers, alt-names, arm-names}
+use Rattle.language.specs.Checks.{Var, Matched, loan, look, outer, bind-all, looks-at, matched, data-of, covers, alt-names, arm-names}
 use Rattle.language.specs.Checks as ch
 use Rattle.language.specs.Meaning.{Value, con-v, State, Limits, Shape, here, root-of, read-at, place-of, bodies, tails, exec, shape, roots-in, parts, find-alt}
 use Rattle.language.specs.Meaning as me
@@ -122,13 +122,13 @@ aims q g v mm z view int su h = absurd (no-some h)
 aims q g v mm z view (dat D) su h = (D, inl (fits-dat D z su))
 aims q g v mm z view (box t) su h = absurd (no-some h)
 aims q g v mm z view (ref t) su h =
-    let m = matched-is (data-of q t) (v .loans) g mm (only-is (readable (all-loans g) (v .name)) (matched (data-of q t) (v .loans) g) mm h .1) in
+    let m = matched-is (data-of q t) (v .loans) g mm (only-is _ (matched (data-of q t) (v .loans) g) mm h .1) in
     let D = data-of-is q t (mm .data1) (m .0) in
     let y = fits-ref t z su in
     (D .0, inr (false, y .0, y .1, y .2 ∙ ap (λ r. borrow false r (y .0) (y .1)) (D .1)))
 aims q g v mm z view (mut t) su h =
     let m = matched-is (data-of q t) (loan (v .name) false ∷ []) g mm
-    (only-is (readable (all-loans g) (v .name)) (matched (data-of q t) (loan (v .name) false ∷ []) g) mm h .1) in
+    (only-is _ (matched (data-of q t) (loan (v .name) false ∷ []) g) mm h .1) in
     let D = data-of-is q t (mm .data1) (m .0) in
     let y = fits-mut t z su in
     (D .0, inr (true, y .0, y .1, y .2 ∙ ap (λ r. borrow true r (y .0) (y .1)) (D .1)))
@@ -138,7 +138,7 @@ aims q g v mm z edit (box t) su h = absurd (no-some h)
 aims q g v mm z edit (ref t) su h = absurd (no-some h)
 aims q g v mm z edit (mut t) su h =
     let m = matched-is (data-of q t) (loan (v .name) true ∷ []) g mm
-    (only-is (is-free (all-loans g) (v .name)) (matched (data-of q t) (loan (v .name) true ∷ []) g) mm h .1) in
+    (only-is _ (matched (data-of q t) (loan (v .name) true ∷ []) g) mm h .1) in
     let D = data-of-is q t (mm .data1) (m .0) in
     let y = fits-mut t z su in
     (D .0, inr (true, y .0, y .1, y .2 ∙ ap (λ r. borrow true r (y .0) (y .1)) (D .1)))

@@ -7,7 +7,7 @@ use Prim.Native.Nat.{ℕ}
 use native.Mathlib.Omega.{arith}
 use Rattle.language.specs.Base.{Lexeme}
 use Rattle.language.specs.Syntax.{Ty, int, dat, box, ref, mut, Expr, op, ctor, boxed, call, lend, load, Exprs, cons-e, Access, bind, assign, store, put-s, cond, loop, match-s, open-s, inside, Stmts, Alts, Fn, Prog}
-use Rattle.language.specs.Checks.{Loan, Var, Env, Typed, Matched, Home, loan, look, there, owned, loadable, readable, is-free, all-loans, set-gone, enter, fresh, holds, types-of-pars, home-of, fn-named, typed, expr, args, stmt, stmts, alts, outer, both, no-more-gone, looks-at, covers, alt-names, boxed-in, goes-in, stores, same-ty}
+use Rattle.language.specs.Checks.{Loan, Var, Env, Typed, Matched, Home, loan, look, there, owned, loadable, is-free, all-loans, set-gone, enter, fresh, holds, types-of-pars, home-of, fn-named, typed, expr, args, stmt, stmts, alts, outer, both, no-more-gone, looks-at, covers, alt-names, boxed-in, goes-in, stores, same-ty}
 use Rattle.soundness.proofs.Basics.{some-is, only-is, if-some-is, and-left, and-right, no-some}
 use Rattle.soundness.proofs.statics.Rules.{there-is, same-ty-is, with-ty-is}
 
@@ -231,19 +231,18 @@ lend-rule q held g x r k =
     let d = only-is (owned (a .0 .ty) && is-free (held ++ all-loans g) x) _ r (a .2) in
     record { var1 = a .0; is-there = a .1; is-owned = and-left _ _ (d .0); free = and-right (owned (a .0 .ty)) _ (d .0); behind = d .1 }
 
--- *x
+-- *x (that x is readable isn't needed here)
 pub record Load-rule (held : List Loan) (g : Env) (x : Lexeme) (r : Typed) : Type 0 where
   pub var1 : Var
   pub is-there : there g x ≡ some var1
   pub is-loadable : loadable (var1 .ty) ≡ true
-  pub is-readable : readable (held ++ all-loans g) x ≡ true
   pub behind : typed int [] g ≡ some r
 
 pub load-rule : (q : Prog) (held : List Loan) (g : Env) (x : Lexeme) (r : Typed) → expr q held g (load x) ≡ some r → Load-rule held g x r
 load-rule q held g x r k =
     let a = if-some-is (there g x) _ r k in
-    let d = only-is (loadable (a .0 .ty) && readable (held ++ all-loans g) x) _ r (a .2) in
-    record { var1 = a .0; is-there = a .1; is-loadable = and-left _ _ (d .0); is-readable = and-right (loadable (a .0 .ty)) _ (d .0); behind = d .1 }
+    let d = only-is _ (typed int [] g) r (a .2) in
+    record { var1 = a .0; is-there = a .1; is-loadable = and-left (loadable (a .0 .ty)) _ (d .0); behind = d .1 }
 
 -- one argument, then the others, which hold what it holds
 pub record Args-rule (q : Prog) (held : List Loan) (g : Env) (e : Expr) (es : Exprs) (t : Ty) (ts : List Ty) (r : Typed) : Type 0 where

@@ -6,7 +6,7 @@ use mathlib.Core.Path.{_≡_, refl, sym, _∙_, ap, subst}
 use Prim.Native.Nat.{ℕ}
 use Rattle.language.specs.Base.{choose, from-option, Lexeme, same, only-if, present}
 use Rattle.language.specs.Syntax.{Ty, int, dat, box, ref, mut, Access, Data, Prog, take, view, edit}
-use Rattle.language.specs.Checks.{Loan, Var, Matched, loan, Env, look, fresh, set-gone, enter, is-free, readable, all-loans, outer, both, no-more-gone, bind-all, ref-of, looks-at, matched, data-of, data-named}
+use Rattle.language.specs.Checks.{Loan, Var, Matched, loan, Env, look, fresh, set-gone, enter, outer, both, no-more-gone, bind-all, ref-of, looks-at, matched, data-of, data-named}
 use Rattle.language.specs.Meaning as me
 use Rattle.soundness.specs.Borrows.{Level-loan}
 use Rattle.soundness.specs.Invariant.{Entry}
@@ -222,19 +222,19 @@ looked z o ls g h mm k e = subst (Env-like g) (matched-env o ls h mm (only-is z 
 pub looks-like : (q : Prog) (g : Env) (v : Var) (w : Access) (t : Ty) (mm : Matched) → looks-at q g v w t ≡ some mm → Env-like g (mm .env)
 looks-like q g v take int mm e = absurd (no-some e)
 looks-like q g v take (dat d) mm e =
-    looked (is-free (all-loans g) (v .name)) (data-named (q .datas) d) [] g (set-gone true g (v .name)) mm (like-gone true g (v .name)) e
+    looked _ (data-named (q .datas) d) [] g (set-gone true g (v .name)) mm (like-gone true g (v .name)) e
 looks-like q g v take (box t) mm e = absurd (no-some e)
 looks-like q g v take (ref t) mm e = absurd (no-some e)
 looks-like q g v take (mut t) mm e = absurd (no-some e)
 looks-like q g v view int mm e = absurd (no-some e)
 looks-like q g v view (dat d) mm e =
-    looked (readable (all-loans g) (v .name)) (data-named (q .datas) d) (loan (v .name) false ∷ []) g g mm (like-self g) e
+    looked _ (data-named (q .datas) d) (loan (v .name) false ∷ []) g g mm (like-self g) e
 looks-like q g v view (box t) mm e = absurd (no-some e)
-looks-like q g v view (ref t) mm e = looked (readable (all-loans g) (v .name)) (data-of q t) (v .loans) g g mm (like-self g) e
-looks-like q g v view (mut t) mm e = looked (readable (all-loans g) (v .name)) (data-of q t) (loan (v .name) false ∷ []) g g mm (like-self g) e
+looks-like q g v view (ref t) mm e = looked _ (data-of q t) (v .loans) g g mm (like-self g) e
+looks-like q g v view (mut t) mm e = looked _ (data-of q t) (loan (v .name) false ∷ []) g g mm (like-self g) e
 looks-like q g v edit int mm e = absurd (no-some e)
 looks-like q g v edit (dat d) mm e =
-    looked (is-free (all-loans g) (v .name)) (data-named (q .datas) d) (loan (v .name) true ∷ []) g g mm (like-self g) e
+    looked _ (data-named (q .datas) d) (loan (v .name) true ∷ []) g g mm (like-self g) e
 looks-like q g v edit (box t) mm e = absurd (no-some e)
 looks-like q g v edit (ref t) mm e = absurd (no-some e)
-looks-like q g v edit (mut t) mm e = looked (is-free (all-loans g) (v .name)) (data-of q t) (loan (v .name) true ∷ []) g g mm (like-self g) e
+looks-like q g v edit (mut t) mm e = looked _ (data-of q t) (loan (v .name) true ∷ []) g g mm (like-self g) e

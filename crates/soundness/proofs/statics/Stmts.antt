@@ -3,9 +3,9 @@ use mathlib.Core.Bool.{Bool, true, false}
 use mathlib.Core.List.{List, [], _∷_, _++_}
 use mathlib.Core.Option.{Option, some}
 use mathlib.Core.Path.{_≡_, refl, _∙_, subst}
-use Rattle.language.specs.Base.{choose, if-some, Lexeme, same, only-if}
+use Rattle.language.specs.Base.{choose, if-some, Lexeme, same}
 use Rattle.language.specs.Syntax.{Ty, int, dat, box, ref, mut, Access, Stmt, Stmts, Alts, Data, Prog, nil-s, cons-s, assign, store, bind, put-s, cond, loop, match-s, open-s, inside, Ctor, no-alts, alt}
-use Rattle.language.specs.Checks.{Loan, Var, loan, Env, set-gone, enter, is-free, readable, all-loans, outer, both, bind-all, ctor-named, stmt, stmts, alts, goes-in, boxed-in, is-no-alts}
+use Rattle.language.specs.Checks.{Loan, Var, loan, Env, set-gone, enter, outer, both, bind-all, ctor-named, stmt, stmts, alts, goes-in, boxed-in, is-no-alts}
 use Rattle.language.specs.Meaning as me
 use Rattle.soundness.proofs.Basics.{no-some, some-is, if-some-is, only-is, same-is}
 use Rattle.soundness.proofs.invariant.Flags.{Weaker}
@@ -18,15 +18,12 @@ goes-env g v x int h e = absurd (no-some e)
 goes-env g v x (dat d) h e = absurd (no-some e)
 goes-env g v x (box t) h e = absurd (no-some e)
 goes-env g v x (ref t) h e =
-    let y = if-some-is (boxed-in t) (λ u. only-if (readable (all-loans g) (v .name)) (some (enter g x (ref u) (v .loans)))) h e in
-    (ref (y .0), v .loans, some-is (only-is (readable (all-loans g) (v .name)) (some (enter g x (ref (y .0)) (v .loans))) h (y .2) .1))
+    let y = if-some-is (boxed-in t) _ h e in
+    (ref (y .0), v .loans, some-is (only-is _ (some (enter g x (ref (y .0)) (v .loans))) h (y .2) .1))
 goes-env g v x (mut t) h e =
-    let y = if-some-is (boxed-in t) (λ u. only-if (is-free (all-loans g) (v .name)) (some (enter g x (mut u) (loan (v .name) true ∷ [])))) h e in (
-      mut (y .0),
-      loan (v .name) true ∷ [],
-      some-is
-          (only-is (is-free (all-loans g) (v .name)) (some (enter g x (mut (y .0)) (loan (v .name) true ∷ []))) h (y .2) .1),
-    )
+    let y = if-some-is (boxed-in t) _ h e in
+    let ls = loan (v .name) true ∷ [] in
+    (mut (y .0), ls, some-is (only-is _ (some (enter g x (mut (y .0)) ls)) h (y .2) .1))
 
 grows-is : (g h i : Env) → Grows g h → h ≡ i → Grows g i
 grows-is g h i a e = subst (Grows g) e a

@@ -6,9 +6,9 @@ use mathlib.Core.Path.{_≡_, refl, sym, _∙_, ap, subst}
 use Prim.Native.Nat.{ℕ, suc}
 use native.Mathlib.Omega.{arith}
 use lib.ListN.{length}
-use Rattle.language.specs.Base.{Lexeme, only-if}
+use Rattle.language.specs.Base.{Lexeme}
 use Rattle.language.specs.Syntax.{Ty, int, dat, box, ref, mut, Data, Prog, inside}
-use Rattle.language.specs.Checks.{Loan, Var, loan, owned, look, enter, is-free, readable, all-loans, goes-in, boxed-in}
+use Rattle.language.specs.Checks.{Loan, Var, loan, owned, look, enter, is-free, all-loans, goes-in, boxed-in}
 use Rattle.language.specs.Checks as ch
 use Rattle.language.specs.Meaning.{Loc, Value, State, Limits, Res, here, root-of, read-at, exec, ref-v, adds-root, loc-of, box-of}
 use Rattle.language.specs.Meaning as me
@@ -182,11 +182,10 @@ inside-step q m u C ln g g2 d F T s x y e sc w = by-type (v .ty) (pl .type) (i1 
     by-type (dat k) su e1 = absurd (no-some e1)
     by-type (box t) su e1 = absurd (no-some e1)
     by-type (ref t) su e1 =
-        let z = if-some-is (boxed-in t) (λ tu. only-if (readable (all-loans g) (v .name)) (some (enter g x (ref tu) (v .loans)))) g2 e1 in
-        let z2 = only-is (readable (all-loans g) (v .name)) (some (enter g x (ref (z .0)) (v .loans))) g2 (z .2) in
+        let z = if-some-is (boxed-in t) _ g2 e1 in
+        let z2 = only-is _ (some (enter g x (ref (z .0)) (v .loans))) g2 (z .2) in
         by-ref t (z .0) (pl .en .kind) (boxed-is t (z .0) (z .1)) su (pl .at-sh) (pl .loans) (pl .fine2) (z2 .1)
     by-type (mut t) su e1 =
-        let z = if-some-is (boxed-in t) (λ tu. only-if (is-free (all-loans g) (v .name))
-        (some (enter g x (mut tu) (loan (v .name) true ∷ [])))) g2 e1 in
-        let z2 = only-is (is-free (all-loans g) (v .name)) (some (enter g x (mut (z .0)) (loan (v .name) true ∷ []))) g2 (z .2) in
+        let z = if-some-is (boxed-in t) _ g2 e1 in
+        let z2 = only-is _ (some (enter g x (mut (z .0)) (loan (v .name) true ∷ []))) g2 (z .2) in
         by-mut t (z .0) (pl .en .kind) (boxed-is t (z .0) (z .1)) su (pl .at-sh) (pl .fine2) (z2 .0) (z2 .1)
