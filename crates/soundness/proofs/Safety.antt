@@ -56,7 +56,7 @@ pub safe-under : {C : Type 0} {P : C → State → Type 0} (Q : C → State → 
 unfolding goes-under
 safe-under Q m k s f h g = safe-choose Q (leb (s .under + k) (m .stack)) (λ _. safe-then Q h (λ a t p. safe-ok (g a t p))) (λ _. safe-stop tt)
 
--- no fuel: late, which isn't wrong
+-- no fuel: that isn't wrong
 pub preserved-zero : (q : Prog) (m : Limits) → Preserved q m zero
 unfolding eval
 preserved-zero q m = record {

@@ -52,7 +52,7 @@ preserved q m o (suc u) = let h = preserved q m o u in record {
   drops-all-ok = drops-all-suc q m u o h;
 }
 
--- THE THEOREMS
+-- the theorems
 no-pars : (ps : List Param) → eqb (length ps) 0 ≡ true → types-of-pars ps ≡ []
 no-pars [] e = refl
 no-pars (x ∷ ps) e = absurd (true-false (sym e ∙ lib.Dec.eqb·suc-zero (length ps)))

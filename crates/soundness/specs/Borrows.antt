@@ -16,7 +16,7 @@ abbrev pub In : {A : Type 0} → A → List A → Type 0
 In x [] = ⊥
 In x (y ∷ ys) = (x ≡ y) ⊎ In x ys
 
--- a deep address: the level of the owned entry, and the way down its tree, through fields and boxes
+-- an address: the level of the entry that owns, and the path down its tree, through fields and boxes
 pub record Addr : Type 0 where
   pub owner : ℕ
   pub path : Path
@@ -26,7 +26,7 @@ pub record Level-loan : Type 0 where
   pub level : ℕ
   pub alone : Bool
 
--- owns a tree of a type; points, alone or shared, at a tree of a type, with loans; or a root that's only there to be ended
+-- owns a tree of a type; borrows, alone or shared, a tree of a type at an address, with loans; or a root that is only there to be ended
 pub data Kind : Type 0 where
   own : Ty → Kind
   borrow : Bool → Ty → Addr → List Level-loan → Kind
@@ -66,7 +66,7 @@ abbrev pub Lent : List Kind → ℕ → Bool → Type 0
 Lent [] i al = ⊥
 Lent (y ∷ N) i al = Has-loan (loans-of y) i al ⊎ Lent N i al
 
--- X, of an older x at level i and address a, and a newer y at address d, N up to y: if one of the addresses is above the other, then both are shared; or
+-- EXCLUSIVITY, of an older x at level i and address a, and a newer y at address d, N up to y: if one of the addresses is above the other, then both are shared; or
 -- x is exclusive and above, and its level is lent, alone if y is exclusive
 abbrev pub Pairwise : List Kind → ℕ → Kind → Addr → Kind → Addr → Type 0
 Pairwise N i x a y d = Comparable a d → ((exclusive x ≡ false) × (exclusive y ≡ false)) ⊎ ((exclusive x ≡ true) × Prefix a d × Lent N i (exclusive y))
@@ -77,7 +77,7 @@ Exclusivity (y ∷ N) =
     ((d : Addr) → addr-of (length N) y ≡ some d → (i : ℕ) (x : Kind) (a : Addr) → at-level N i ≡ some x → addr-of i x ≡ some a
     → Pairwise (y ∷ N) i x a y d) × Exclusivity N
 
--- L: a reference's loans are of older ones, one of them in the same cell; and that's owned
+-- ANCHORED: a reference's loans are of older entries, one of them leads into the same owner, and that owner owns
 abbrev pub owner-at : List Kind → ℕ → Option ℕ
 owner-at N i = if-some (at-level N i) (λ x. if-some (addr-of i x) (λ a. some (a .owner)))
 

@@ -17,7 +17,7 @@ use Rattle.soundness.specs.Borrows.{In, Level-loan, Kind, own, borrow, inert, 
 use Rattle.soundness.specs.Trees.{Tree, flat}
 use Rattle.soundness.specs.Invariant.{Entry, in-flight, rooted}
 
--- THE FRAME: static names g, the meaning's names d, and their entries F; base: how many entries are under the frame; lend: the loans that the arguments came with
+-- the level of a name: base is the number of entries under the frame
 abbrev pub name-level : ℕ → ch.Env → Lexeme → Option ℕ
 name-level base [] x = none
 name-level base (v ∷ vs) x = choose (same (v .name) x) (some (length vs + base)) (name-level base vs x)
@@ -78,7 +78,7 @@ No-borrows (own t ∷ N) = No-borrows N
 No-borrows (borrow al t a ls ∷ N) = ⊥
 No-borrows (inert ∷ N) = No-borrows N
 
--- parts that fall, the first on top
+-- parts to be dropped, the first on top
 abbrev pub Dropping : Values → List Entry → Type 0
 Dropping nil-v [] = Unit {0}
 Dropping nil-v (e ∷ K) = ⊥

@@ -70,7 +70,7 @@ Entries-ok ds rs [] (x ∷ T) = ⊥
 Entries-ok ds rs (e ∷ N) [] = ⊥
 Entries-ok ds rs (e ∷ N) (x ∷ T) = Entry-ok ds rs (e .at) (e .gone) (e .kind) x N T × Entries-ok ds rs N T
 
--- weights: each root that stands in the world, and each that is live, so much by its number and words
+-- sums: over the roots that stand in the stack, and over those that are live, of something by number and words
 abbrev pub place-sum : (ℕ → ℕ → ℕ) → Place → ℕ
 place-sum f (rooted r w) = f r w
 place-sum f (in-flight v) = 0

@@ -1,4 +1,4 @@
--- Owned trees: a forest's trees with boxes inlined, deep paths in them, and how they lie in the meaning's flat store.
+-- Owned trees: values with boxes inlined, paths through fields and boxes, and how they lie in the meaning's flat store.
 use mathlib.Core.Bool.{true}
 use mathlib.Core.List.{List, [], _∷_, _++_}
 use mathlib.Core.Option.{Option, some, none}
@@ -132,7 +132,7 @@ abbrev pub replace : Path → Tree → Tree → Tree
 replace [] u t = u
 replace (i ∷ is) u t = from-option (child i t) t (λ k. set-child i (replace is u k) t)
 
--- where what's one step down lies; and what's down a way
+-- where what is one step down lies; and what is down a path
 abbrev pub loc-step : Loc → Step → Tree → Loc
 loc-step l (field-step i) t = record { root = l .root; path = l .path ++ (i ∷ []) }
 loc-step l box-step (int-t k) = l
@@ -144,6 +144,6 @@ abbrev pub loc-down : Loc → Path → Tree → Loc
 loc-down l [] t = l
 loc-down l (i ∷ is) t = from-option (child i t) l (λ k. loc-down (loc-step l i t) is k)
 
--- a way strictly below another
+-- a path strictly below another
 abbrev pub Strictly-below : Path → Path → Type 0
 Strictly-below a q = (i : Step) × (r : Path) × (q ≡ a ++ (i ∷ r))

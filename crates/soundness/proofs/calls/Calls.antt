@@ -124,7 +124,7 @@ in-last g g1 s [] (w ∷ vs) x v e = absurd (no-some e)
 in-last g g1 s (y ∷ xs) [] x v e = absurd (no-some e)
 in-last g g1 s (y ∷ xs) (w ∷ vs) x v e = in-last (record { name = y; root = length (s .roots) } ∷ g) g1 (adds-root s w 0) xs vs x v e
 
--- ARGUMENTS BECOME NAMES, under X that's still in flight
+-- arguments become names, under the entries X that are still in flight
 pub record Entered (ds : List Data) (X C : List Entry) (ln : List Level-loan) (T : List Tree) (s : State) (ps : List Param)
     (vs : Values) : Type 0 where
   pub env : me.Env
@@ -181,7 +181,7 @@ entered ds X C ln T s ps A ts vs (snoc-arg {A = A1} {ts = ts1} {vs = vs1} e1 t v
     (entered-one ds X C ln T s (sp .0) (sp .1) vs1 e1 t v (sp .4) fg (nt2 .1)
     (λ l i. low l (in-left l (loans-of (e1 .kind)) (all-loans-of A1) i)) h)
 
--- A CALL
+-- the call
 given-call : (q : Prog) (C A : List Entry) (t : Ty) (j k : ℕ) (v : Value) (s : State) → After-give q C (all-loans-of A) [] t j v s
     → After-call q C A t k v (with-under s k)
 given-call q C A t j k v s a = go (a .F) (a .named) (a .world)

@@ -1,4 +1,4 @@
--- The whole step for what a body gives, case by case.
+-- The step for what a body gives, case by case.
 use mathlib.Core.Bool.{true}
 use mathlib.Core.Path.{_≡_}
 use Prim.Native.Nat.{ℕ, suc}

@@ -1,4 +1,4 @@
--- What stands behind an expression whose value is a number or a reference; and the scene for the next one.
+-- What stands behind an expression whose value is a number or a reference; and the frame for the next one.
 use mathlib.Core.Bool.{Bool}
 use mathlib.Core.List.{List, [], _∷_, _++_}
 use mathlib.Core.Option.{some}
@@ -38,7 +38,7 @@ int-after q C ln g d H F T s k j r e mt w un = record {
     r-is : record { ty = int; loans = []; env = g } ≡ r
     r-is = some-is e
 
--- a scene goes on behind an expression
+-- the frame behind an expression
 pub frame-after : (C : List Entry) (ln : List Level-loan) (held : List Loan) (g g2 : ch.Env) (d : me.Env) (H F F2 : List Entry)
     → Frame C ln held g d H F → Scope (length C) ln g2 d F2 → Frame C ln held g2 d H F2
 frame-after C ln held g g2 d H F F2 sc mt =

@@ -1,4 +1,4 @@
--- The whole step for an expression, case by case.
+-- The step for an expression, case by case.
 use mathlib.Core.Bool.{true}
 use mathlib.Core.Path.{_≡_}
 use Prim.Native.Nat.{ℕ, suc}

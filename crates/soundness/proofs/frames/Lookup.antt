@@ -20,7 +20,7 @@ use Rattle.soundness.proofs.invariant.Levels.{anchored-under, level-kinds, Ent
 use Rattle.soundness.proofs.invariant.Borrows.{one-loan}
 use Rattle.soundness.proofs.frames.Names.{not-lent-by-name, free-not-among, readable-not-among, Name-entry, name-entry}
 
--- WHAT STANDS AT A NAME, in the whole stack
+-- what stands at a name, in the whole stack
 pub record Name-at (ds : List Data) (C : List Entry) (ln : List Level-loan) (g : ch.Env) (d : me.Env) (H F : List Entry) (T : List Tree) (s : State)
     (x : Lexeme) (v : Var) : Type 0 where
   pub level : ℕ

@@ -1,4 +1,4 @@
--- A stack split at a level; a name's entry taken out of its frame and put back with another flag; THE SWAP AT A NAME: moves and assignments.
+-- Moves and assignments: at a name that is free, a new value goes in and the old one comes out.
 use mathlib.Core.Bool.{Bool, true, false}
 use mathlib.Core.List.{List, [], _∷_, _++_, append-assoc}
 use mathlib.Core.Logic.{_⊎_, inl, inr}
@@ -84,7 +84,7 @@ binding-like base ln g h v m e lk k =
       fresh = fresh-like g h (v .name) lk (k .fresh);
     }
 
--- A NAME'S ENTRY IN ITS FRAME: F is F1, the entry, F2; with another flag it's the frame of set-gone
+-- a name's entry in its frame: F is F1, the entry, F2; with another flag it is the frame of set-gone
 pub record Split (C : List Entry) (ln : List Level-loan) (g : ch.Env) (d : me.Env) (F : List Entry) (x : Lexeme) (v : Var) : Type 0 where
   pub F1 : List Entry
   pub en : Entry
@@ -151,7 +151,7 @@ split-of C ln (v0 ∷ g) (m ∷ d) (en ∷ F) x v mt e = go (same (v0 .name) x) 
           (binding-like (length C) ln g (set-gone z g x) v0 m en (like-gone z g x) (mt .0), y .with-flag z);
     }
 
--- THE SWAP AT A NAME x that's owned and free: y, in flight on top, goes in, what was there comes out; the flag of x is now z
+-- at a name x that is owned and free: y, in flight on top, goes in, what was there comes out; the flag of x is now z
 pub record Swapped (ds : List Data) (C : List Entry) (ln : List Level-loan) (g : ch.Env) (d : me.Env) (H : List Entry) (x : Lexeme) (v : Var)
     (z : Bool) (y : Tree) (s : State) : Type 0 where
   pub root : ℕ

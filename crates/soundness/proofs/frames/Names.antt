@@ -108,7 +108,7 @@ lent-above X (e ∷ H) i al f c (inl h) = f (h .0, in-left (h .0) (loans-of (e .
 lent-above X (e ∷ H) i al f c (inr h) =
     lent-above X H i al (λ k. f (k .0, in-right (k .0) (loans-of (e .kind)) (all-loans-of H) (k .1), k .2, k .3)) c h
 
--- THE RULES' free AND readable, of the whole stack
+-- free and readable by the rules, for the whole stack
 pub not-lent-by-name : (C : List Entry) (ln : List Level-loan) (held : List Loan) (g : ch.Env) (d : me.Env) (H F : List Entry) (x : Lexeme) (lx : ℕ)
     (al : Bool) → Frame C ln held g d H F → Anchored (kinds C) → name-level (length C) g x ≡ some lx → Not-among (held ++ all-loans g) x al
     → Lent (kinds (H ++ (F ++ C))) lx al → ⊥
@@ -136,7 +136,7 @@ readable-not-among ls x e y z i same-name f =
     true-false (sym e ∙ ap not (some-of-in (λ l. same (l .root) x && l .alone) ls (loan y z) i
     (ap (λ w. w && z) (subst (λ w. same y w ≡ true) same-name (same-self y)) ∙ f refl)))
 
--- WHAT'S GIVEN
+-- what is given
 anchored-loan : (N : List Kind) → Anchored N → (j : ℕ) (x : Bool) (t : Ty) (a : Addr) (ls : List Level-loan) → at-level N j ≡ some (borrow x t a ls)
     → (l : Level-loan) × In l ls × (owner-at N (l .level) ≡ some (a .owner))
 anchored-loan [] h j x t a ls e = absurd (no-some e)
@@ -243,7 +243,7 @@ name-entry C ln (v0 ∷ g) (m ∷ d) (en ∷ F) x v mt e = go (same (v0 .name) x
       loans = cover-push (length C) ln v0 g (v .loans) (loans-of (y .en .kind)) (mt .0 .fresh) (y .loans);
     }
 
--- a reference's loans that come from the caller only: one of the caller's loans is of its cell
+-- a reference's loans that come from the caller only: one of the caller's loans leads into its owner
 abbrev pub Of-owner : List Entry → List Level-loan → ℕ → Type 0
 Of-owner N L cl = (l : Level-loan) × In l L × (owner-at (kinds N) (l .level) ≡ some cl)
 

@@ -1,4 +1,4 @@
--- THE TUCK: what's given goes below its frame, with the loans that the arguments came with; the frame's references are used no more.
+-- Returning: what is given goes below its frame, with the loans that the arguments came with; the frame's references are used no more.
 use mathlib.Core.Bool.{Bool}
 use mathlib.Core.List.{List, [], _∷_, _++_}
 use mathlib.Core.Logic.{_⊎_, inl, inr}
@@ -22,7 +22,7 @@ use Rattle.soundness.proofs.loans.Stack.{level-top, level-below, level-push, P
 use Rattle.soundness.proofs.invariant.Levels.{kinds-length, borrows-under, places-length, level-under}
 use Rattle.soundness.proofs.frames.Names.{name-level-low, Of-owner}
 
--- references put to rest
+-- references that are used no more
 abbrev pub retire : Kind → Kind
 retire (own t) = own t
 retire (borrow al t a ls) = inert
@@ -94,7 +94,7 @@ frame-lent C ln (v ∷ g) (m ∷ d) [] i al mt lt h = absurd mt
 frame-lent C ln (v ∷ g) (m ∷ d) (e ∷ F) i al mt lt (inl h) = inl (below-lent C ln g (v .loans) (loans-of (e .kind)) i al lt (mt .0 .loans) h)
 frame-lent C ln (v ∷ g) (m ∷ d) (e ∷ F) i al mt lt (inr h) = frame-lent C ln g d F i al (mt .1) lt h
 
--- X and L for what's given, on the caller's stack
+-- Exclusivity and Anchored for what is given, on the caller's stack
 pub given-borrows : (C : List Entry) (ln : List Level-loan) (g : ch.Env) (d : me.Env) (F : List Entry) (ls0 : List Loan) (al : Bool) (t : Ty)
     (a : Addr) (ls : List Level-loan) → Scope (length C) ln g d F → ((l : Level-loan) → In l ln → l .level < length C)
     → Loans-cover (length C) ln g ls0 ls → Of-owner (F ++ C) ln (a .owner) → Well-borrowed (borrow al t a ls ∷ kinds (F ++ C))

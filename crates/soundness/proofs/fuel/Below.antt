@@ -1,4 +1,4 @@
--- Results that are the same, or the first of which is late.
+-- Results that are the same, or the first of which is out of fuel.
 use mathlib.Core.Bool.{Bool, true, false}
 use mathlib.Core.Option.{Option, some, none}
 use mathlib.Core.Path.{_≡_, refl}

@@ -1,4 +1,4 @@
--- More-fuel: each function of the meaning, with more fuel, gives the same or was late.
+-- More-fuel: each function of the meaning, with more fuel, gives the same, or it was out of fuel.
 use mathlib.Core.List.{List, [], _∷_}
 use Prim.Native.Nat.{ℕ, _≤_, zero-le, suc-le-suc}
 use Rattle.language.specs.Syntax.{Expr, num, var, op, ctor, boxed, call, share, lend, load, get-e, Exprs, Access, Stmt, Stmts, Alts, Body, Tail, Arms, Fn, Prog, nil-e, cons-e, nil-s, cons-s, assign, store, bind, put-s, cond, loop, match-s, open-s, inside, body, give, give-cond, give-match}

@@ -1,4 +1,4 @@
--- References pushed on top of a world, with a loan of what they're made from or with its loans; and read.
+-- References pushed on top of the stack, with a loan of what they are made from or with its loans; and read.
 use mathlib.Core.Bool.{Bool, true, false}
 use mathlib.Core.List.{List, [], _∷_}
 use mathlib.Core.Logic.{_⊎_, inl, inr}
@@ -37,7 +37,7 @@ anchored-at (y ∷ N) h j x t a ls e = go (level-case y N j (borrow x t a ls) e)
     go (inl k) f = anchored-push y N x t a ls (subst (Anchored1 N) (k .1) (h .0))
     go (inr k) f = anchored-push y N x t a ls (f k)
 
--- the cell of what has an address is owned
+-- at the owner of an address something is owned
 pub owner-of : (N : List Kind) → Anchored N → (lx : ℕ) (z : Kind) (az : Addr) → at-level N lx ≡ some z → addr-of lx z ≡ some az
     → (u : Ty) × (at-level N (az .owner) ≡ some (own u))
 owner-of N hm lx (own t) az z-at e = (t, ap (λ k. at-level N (k .owner)) (sym (some-is e)) ∙ z-at)
@@ -45,7 +45,7 @@ owner-of N hm lx (borrow al t a ls) az z-at e =
     let h = anchored-at N hm lx al t a ls z-at in (h .2 .0, ap (λ k. at-level N (k .owner)) (sym (some-is e)) ∙ h .2 .1)
 owner-of N hm lx inert az z-at e = absurd (no-some e)
 
--- A LOAN of what's exclusive at level lx: a reference at or below its address, with that loan alone
+-- a loan of what is exclusive at level lx: a reference at or below its address, with that loan alone
 abbrev pub one-loan : ℕ → Bool → List Level-loan
 one-loan i al = record { level = i; alone = al } ∷ []
 
@@ -86,7 +86,7 @@ push-loan ds N T s lx z az aw al t v z-at az-is xz pre qu pt w =
     )
     pt
 
--- A COPY of a shared reference: at or below its address, with its loans
+-- a copy of a shared reference: at or below its address, with its loans
 pub push-copy : (ds : List Data) (N : List Entry) (T : List Tree) (s : State) (lx : ℕ) (t0 : Ty) (a aw : Addr) (ls : List Level-loan) (t : Ty)
     (v : Value) → at-level (kinds N) lx ≡ some (borrow false t0 a ls) → Prefix a aw → Valid-ref ds N T t aw v → Invariant ds N T s
     → Invariant ds (borrow-entry false t aw ls v ∷ N) (hole-t ∷ T) s

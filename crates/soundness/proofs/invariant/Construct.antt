@@ -102,7 +102,7 @@ make-con ds N A ts vs T s k h hm t-is fl ow w =
       },
     )
 
--- BOXES: a box's words are those of its content's type
+-- a box's words are those of its content's type
 size-int : (k : ℕ) (ds : List Data) → from-option (size k ds int) 1 (λ z. z) ≡ 1
 size-int zero ds = refl
 size-int (suc k) ds = refl

@@ -1,4 +1,4 @@
--- Flags weaken: what's a world with some names gone is one with more gone.
+-- Flags weaken: the invariant with some names gone gives the invariant with more gone.
 use mathlib.Core.Bool.{Bool, true, false}
 use mathlib.Core.List.{List, [], _∷_, _++_}
 use mathlib.Core.Logic.{inl, inr}
@@ -173,7 +173,7 @@ weak-scope base ln (v ∷ g) (w ∷ h) (i ∷ d) (e ∷ F) k m =
       (refl, refl, (λ z. k .3 (sym (m .0 .flag) ∙ z)), r .1),
     )
 
--- a frame with more flags, and the world with it; H is what's above the frame
+-- a frame with more flags, and the invariant with it; H is what is above the frame
 pub weak-frame : (ds : List Data) (base : ℕ) (ln : List Level-loan) (g h : ch.Env) (d : me.Env) (H F C : List Entry) (T : List Tree) (s : State)
     → Weaker g h → Scope base ln g d F → Invariant ds (H ++ (F ++ C)) T s
     → Scope base ln h d (with-flags h F) × Invariant ds (H ++ (with-flags h F ++ C)) T s

@@ -1,4 +1,4 @@
--- THE SWAP: what's at the top goes in at a way of a cell, what was there comes out to the top; moves, assignments and stores are this.
+-- Replacing: what is at the top goes in at a path of an owner, what was there comes out to the top. Moves, assignments and stores are this.
 use mathlib.Core.Bool.{Bool, true, false}
 use mathlib.Core.List.{List, [], _∷_, _++_}
 use mathlib.Core.Logic.{inl, inr}
@@ -22,7 +22,7 @@ use Rattle.soundness.proofs.loans.Stack.{level-top, level-below, level-push, p
 use Rattle.soundness.proofs.invariant.Levels.{entry-ok-mid, places-length}
 use Rattle.soundness.proofs.invariant.Top.{Elsewhere, entry-ok-else, entries-ok-else, once-in}
 
--- reading down a way
+-- reading down a path
 read-then : (s : State) (l : Loc) (js : List ℕ) → read-at s (extend l js) ≡ if-some (read-at s l) (at-path js)
 read-then s l js = go (live-root s (l .root))
   where
@@ -67,7 +67,7 @@ child-reads s l box-step (box-t r w x) k e st rd =
     (λ z. some (flat z)) (some-is e)
 child-reads s l box-step hole-t k e st rd = absurd (no-some e)
 
--- THE READ: at the place of a way stands what's down that way
+-- reading: at the place of a path stands what is down that path
 pub reads-way : (s : State) (l : Loc) (q : Path) (x part : Tree) → subtree q x ≡ some part → Stored (s .roots) x → read-at s l ≡ some (flat x)
     → read-at s (loc-down l q x) ≡ some (flat part)
 reads-way s l [] x part e st rd = rd ∙ ap {B = Option Value} (λ z. some (flat z)) (some-is e)
@@ -227,7 +227,7 @@ sum-mid f [] (y ∷ T1) e N2 x T2 h = absurd (omega arith)
 sum-mid f (d ∷ N1) [] e N2 x T2 h = absurd (omega arith)
 sum-mid f (d ∷ N1) (y ∷ T1) e N2 x T2 h = let k = sum-mid f N1 T1 e N2 x T2 (omega arith) in omega arith
 
--- a reference into the cell, or elsewhere, after the swap
+-- a reference into that owner, or elsewhere, after the value is replaced
 module _ (ds : List Data) (r : ℕ) (q : Path) (tr y : Tree) (ex : Entry) (ex-at : ex .at ≡ rooted r 0) (gone2 : Bool) (N2 : List Entry)
     (T2 : List Tree) (len2 : length T2 ≡ length N2) where
   valid-ref-replace : (N1 : List Entry) (T1 : List Tree) (t : Ty) (a : Addr) (v : Value)

@@ -25,7 +25,7 @@ kinds-root : (N1 : List Entry) (e : Entry) (r : ℕ) (N2 : List Entry) → kinds
 kinds-root [] e r N2 = refl
 kinds-root (d ∷ N1) e r N2 = ap (λ z. d .kind ∷ z) (kinds-root N1 e r N2)
 
--- who points, points to what's rooted already
+-- a reference leads to what has a root already
 valid-ref-root : (ds : List Data) (N1 : List Entry) (e : Entry) (v0 : Value) (r : ℕ) (N2 : List Entry) (T : List Tree) (t : Ty) (a : Addr) (v : Value)
     → e .at ≡ in-flight v0 → Valid-ref ds (N1 ++ (e ∷ N2)) T t a v → Valid-ref ds (N1 ++ (with-root e r ∷ N2)) T t a v
 valid-ref-root ds N1 e v0 r N2 T t a v e-at pt =

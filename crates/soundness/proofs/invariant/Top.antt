@@ -1,4 +1,4 @@
--- Operations on a world: at the top of the stack, and roots that come and go.
+-- Operations at the top of the stack, and roots that come and go.
 use mathlib.Core.Bool.{Bool, true, false}
 use mathlib.Core.List.{List, [], _∷_, _++_}
 use mathlib.Core.Logic.{inl, inr}
@@ -169,7 +169,7 @@ once-in ds N T s r w = let h = w .sums (mark r) in let k = sum-once r 0 (s .root
 rest-else : (rs : List Root) (r : ℕ) (y : Root) → Elsewhere rs (set-at rs r y) r
 rest-else rs r y j ne x e = at-put-other rs r j y ne ∙ e
 
--- the same entry, in flight
+-- the same entry, in flight; with a root
 abbrev pub unrooted : Entry → Value → Entry
 unrooted e v = record { at = in-flight v; gone = e .gone; kind = e .kind }
 
@@ -324,7 +324,7 @@ parts-dropping ds nil-t (t ∷ ts) ty = absurd ty
 parts-dropping ds (cons-t x xs) [] ty = absurd ty
 parts-dropping ds (cons-t x xs) (t ∷ ts) ty = (refl, parts-dropping ds xs ts (ty .1))
 
--- a constructor in flight falls apart
+-- a constructor in flight comes apart
 pub open-con : (ds : List Data) (e : Entry) (N : List Entry) (k : Lexeme) (xs : Trees) (ts : List Ty) (T : List Tree) (s : State) (v : Value)
     → e .at ≡ in-flight v → Stored-all (s .roots) xs → Typed-all ds xs ts → Invariant ds (e ∷ N) (con-t k xs ∷ T) s
     → Invariant ds (owned-entries xs ts ++ N) (trees-of xs ++ T) s
@@ -467,7 +467,7 @@ end-box-top ds N r (suc w) (x ∷ T) s le wo = (
         let b3 = in-use-out (s .classes) (suc w) (suc k) ne in
         omega arith
 
--- the top's shape, by its tree
+-- the top's kind, by its tree
 pub retype-top : (ds : List Data) (e : Entry) (N : List Entry) (x : Tree) (T : List Tree) (s : State) (v : Value) (t : Ty) → e .at ≡ in-flight v
     → Stored (s .roots) x → Typed ds x t → Invariant ds (e ∷ N) (x ∷ T) s → Invariant ds (owned-entry x t ∷ N) (x ∷ T) s
 retype-top ds e N x T s v t at-is st ty w = record {

@@ -1,4 +1,4 @@
--- The stack of all names and of all values in flight, newest first, by shape: who owns, who points where, who has which loans; an entry's LEVEL is the number of entries under it, so that it stays the same when something is put on top.
+-- Levels, paths, and Exclusivity: what a reborrow keeps, and what it says of free and readable entries.
 use mathlib.Core.Bool.{Bool, true, false}
 use mathlib.Core.List.{List, [], _∷_, _++_, append-assoc}
 use mathlib.Core.Logic.{_⊎_, inl, inr}
@@ -46,7 +46,7 @@ level-push x xs i h = go (eqb i (length xs)) (λ t. eqb→eq i (length xs) t)
     go true f = absurd (let g = f tt in omega arith)
     go false f = refl
 
--- ways
+-- paths
 pub two-paths : (q r s t : Path) → q ++ s ≡ r ++ t → ((z : Path) × (r ≡ q ++ z)) ⊎ ((z : Path) × (q ≡ r ++ z))
 two-paths [] r s t e = inl (r, refl)
 two-paths (i ∷ q) [] s t e = inr (i ∷ q, refl)
@@ -59,7 +59,7 @@ two-paths (i ∷ q) (j ∷ r) s t e = go (let h : q ++ s ≡ r ++ t = cc in two-
 pub prefix-trans : (a d f : Addr) → Prefix a d → Prefix d f → Prefix a f
 prefix-trans a d f h k = (h .0 ∙ k .0, (h .1 .0 ++ k .1 .0, k .1 .1 ∙ ap (λ z. z ++ k .1 .0) (h .1 .1) ∙ append-assoc (a .path) (h .1 .0) (k .1 .0)))
 
--- what's comparable with something at or below z is comparable with z
+-- what is comparable with something at or below z is comparable with z
 pub comparable-up : (a z w : Addr) → Prefix z w → Comparable a w → Comparable a z
 comparable-up a z w h (inl k) = go (two-paths (a .path) (z .path) (k .1 .0) (h .1 .0) (sym (k .1 .1) ∙ h .1 .1))
   where
@@ -76,7 +76,7 @@ lent-any (y ∷ N) i al (inr h) = inr (lent-any N i al h)
 not-both : {x : Bool} → x ≡ true → x ≡ false → ⊥
 not-both e f = let z : true ≡ false = sym e ∙ f in let k : _≡_ {A = ℕ} 0 1 = cc in omega arith
 
--- X for any two levels
+-- Exclusivity, for any two levels
 abbrev pub Permitted : List Kind → ℕ → Kind → Addr → Kind → Addr → Type 0
 Permitted N i x a y d = ((exclusive x ≡ false) × (exclusive y ≡ false)) ⊎ ((exclusive x ≡ true) × Prefix a d × Lent N i (exclusive y))
 
@@ -101,7 +101,7 @@ permitted-at (t ∷ N) h i j x y a d lt ex ey ax ay co = go (level-case t N j y 
         (h .0 d (ap (addr-of (length N)) (b .1) ∙ subst (λ z. addr-of z y ≡ some d) (b .0) ay) i x a (under (b .0)) ax co)
     go (inr b) f = more (f b)
 
--- NEW ENTRIES: w, at or below z, exclusive only if z is. Either z is shared, or w has a loan of it, and no newer one that's comparable with w stands in the way
+-- A reborrow: a new entry w at or below z, exclusive only if z is. Either z is shared, or w has a loan of it and no newer entry that is comparable with w is in conflict
 abbrev pub Unobstructed : List Kind → ℕ → Bool → Addr → Type 0
 Unobstructed N lz wx aw =
     (j : ℕ) (v : Kind) (d : Addr) → lz < j → at-level N j ≡ some v → addr-of j v ≡ some d → Comparable d aw → (exclusive v ≡ true) ⊎ (wx ≡ true) → ⊥
@@ -159,7 +159,7 @@ reborrow N h lz z az ez az-is w aw aw-is pre ex src = (
       ]
     ]
 
--- who is free has nothing newer in the way; who is readable, nothing newer that's exclusive
+-- what is free has no newer entry in conflict; what is readable, none that is exclusive
 pub unobstructed-free : (N : List Kind) → Exclusivity N → (lz : ℕ) (z : Kind) (az : Addr) → at-level N lz ≡ some z → addr-of lz z ≡ some az
     → exclusive z ≡ true → (Lent N lz false → ⊥) → (wx : Bool) (aw : Addr) → Prefix az aw → Unobstructed N lz wx aw
 unobstructed-free N h lz z az ez az-is xz free wx aw pre j v d lt v-at d-is co ex =
@@ -190,7 +190,7 @@ unobstructed-readable N h lz z az ez az-is xz free aw pre j v d lt v-at d-is co 
 path-longer : (q r : Path) (i : Step) → q ≡ q ++ (i ∷ r) → ⊥
 path-longer q r i e = let k : length q ≡ length (q ++ (i ∷ r)) = ap length e in let g = length-append q (i ∷ r) in omega arith
 
--- THE STORE: through what's exclusive and free, nothing strictly below is pointed at
+-- into what is strictly below an exclusive and free entry, no reference leads
 pub none-below : (N : List Kind) → Exclusivity N → (lz : ℕ) (z : Kind) (az : Addr) → at-level N lz ≡ some z → addr-of lz z ≡ some az
     → exclusive z ≡ true → (Lent N lz false → ⊥) → (j : ℕ) (y : Kind) (d : Addr) → at-level N j ≡ some y → addr-of j y ≡ some d → az .owner ≡ d .owner
     → Strictly-below (az .path) (d .path) → ⊥
@@ -217,7 +217,7 @@ none-below N h lz z az ez az-is xz free j y d y-at d-is same-cell bel = elim (or
         path-longer (az .path) (bel .1 ++ x .1 .1 .0) (bel .0)
         (x .1 .1 .1 ∙ ap (λ w. w ++ x .1 .1 .0) (bel .2) ∙ append-assoc (az .path) (bel .0 ∷ bel .1) (x .1 .1 .0))
 
--- references point to older cells
+-- references lead to older owners
 pub owner-older : (N : List Kind) → Anchored N → (j : ℕ) (x : Bool) (t : Ty) (a : Addr) (ls : List Level-loan)
     → at-level N j ≡ some (borrow x t a ls) → a .owner < j
 owner-older [] h j x t a ls e = absurd (no-some e)
@@ -230,7 +230,7 @@ owner-older (y ∷ N) h j x t a ls e = go (level-case y N j (borrow x t a ls) e)
         let g = level-below N (a .owner) (own (hm .2 .0)) (hm .2 .1) in let g2 = k .0 in omega arith
     go (inr k) f = f k
 
--- what's owned and free is pointed into by nobody
+-- into what is owned and free no reference leads
 pub none-into : (N : List Kind) → Well-borrowed N → (lz : ℕ) (u : Ty) → at-level N lz ≡ some (own u) → (Lent N lz false → ⊥)
     → (j : ℕ) (x : Bool) (t : Ty) (a : Addr) (ls : List Level-loan) → at-level N j ≡ some (borrow x t a ls) → a .owner ≡ lz → ⊥
 none-into N sn lz u ez free j x t a ls y-at e =
@@ -268,7 +268,7 @@ push-inert N sn = record { exclusivity = (λ d d-is i x a x-at a-is co. absurd (
 pub pop-borrows : (y : Kind) (N : List Kind) → Well-borrowed (y ∷ N) → Well-borrowed N
 pop-borrows y N sn = record { exclusivity = sn .exclusivity .1; anchored = sn .anchored .1 }
 
--- parts of one name, lent one after the other: a sibling that's not comparable isn't in the way
+-- parts of one name, lent one after the other: a sibling that is not comparable is no conflict
 pub unobstructed-push : (N : List Kind) (lz : ℕ) (wx : Bool) (aw : Addr) (y : Kind) → Unobstructed N lz wx aw
     → ((d : Addr) → addr-of (length N) y ≡ some d → Comparable d aw → ⊥) → Unobstructed (y ∷ N) lz wx aw
 unobstructed-push N lz wx aw y q no-way j v d lt v-at d-is co ex = go (level-case y N j v v-at)
@@ -294,7 +294,7 @@ siblings cell q i j ne (inr h) = apart q (h .1 .0) (h .1 .1)
 pub prefix-self : (a : Addr) → Prefix a a
 prefix-self a = (refl, ([], sym (append-nil (a .path))))
 
--- L, of a reference anywhere, in the whole stack
+-- Anchored, of a reference anywhere in the stack
 pub owner-push : (y : Kind) (N : List Kind) (i k : ℕ) → owner-at N i ≡ some k → owner-at (y ∷ N) i ≡ some k
 owner-push y N i k e = found (at-level N i) refl e
   where

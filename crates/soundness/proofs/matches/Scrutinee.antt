@@ -27,7 +27,7 @@ use Rattle.soundness.proofs.frames.Lookup.{Name-at, name-at, free-at, readable
 use Rattle.soundness.proofs.matches.View.{Seen, seen-own, seen-ref, Looked, Suit, looked-refs, looked-name}
 use Rattle.soundness.proofs.matches.Take.{looked-take}
 
--- shapes by types
+-- kinds by types
 pub fits-dat : (D : Lexeme) (z : Kind) → Kind-fits (dat D) z → z ≡ own (dat D)
 fits-dat D (own u) su = ap own (sym (su .0))
 fits-dat D (borrow true u a ls) su = absurd (let k : _≡_ {A = ℕ} 0 1 = cc in omega arith)
@@ -76,7 +76,7 @@ module _ (q : Prog) (o : ch.accepts q ≡ true) (C : List Entry) (ln : List Leve
   pl : Name-at (q .datas) C ln g d [] F T s x v
   pl = name-at (q .datas) C ln [] g d [] F T s x v sc wo (is-there .0)
 
-  -- the name's entry, of a shape
+  -- the name's entry, of a kind
   stands-as : (z : Kind) → pl .en .kind ≡ z → at-level (kinds (F ++ C)) (pl .level) ≡ some z
   stands-as z e = pl .at-sh ∙ ap {B = Option Kind} (λ y. some y) e
 
@@ -182,6 +182,6 @@ module _ (q : Prog) (o : ch.accepts q ≡ true) (C : List Entry) (ln : List Leve
         by-name edit true (λ t a L. refl) refl refl (D .0) (borrow true (dat (D .0)) (z .0) (z .1)) z-is refl
         (ref-seen (D .0) true (z .0) (z .1) z-is) (D .2) (m .1) (m .2) (f .0)
 
-    -- THE MATCH: what's looked at, in any way
+    -- what a match looks at, in any way
     pub looks : (w : Access) → looks-at q g v w (v .ty) ≡ some mm → Looked q C ln mm d w l k vs s
     looks w h = by-type w (v .ty) refl h

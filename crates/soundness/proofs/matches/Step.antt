@@ -1,4 +1,4 @@
--- The whole steps for matches: by-alt and by-shape, and the cases match of statements and of what's given.
+-- The steps for matches: by-alt and by-shape, and the cases match of statements and of what is given.
 use mathlib.Core.Bool.{Bool, true, false, _&&_}
 use mathlib.Core.List.{List, [], _∷_, _++_}
 use mathlib.Core.Logic.{_⊎_, inl, inr}
@@ -143,7 +143,7 @@ aims q g v mm z edit (mut t) su h =
     let y = fits-mut t z su in
     (D .0, inr (true, y .0, y .1, y .2 ∙ ap (λ r. borrow true r (y .0) (y .1)) (D .1)))
 
--- the run finds what's looked at
+-- the run finds what is looked at
 abbrev pub Scrutinee-seen : me.Env → Lexeme → State → Type 0
 Scrutinee-seen d x s = (r : ℕ) × (v : Value) × (y : Shape) × Scrutinee d x (place-of r v) y s × (root-of d x ≡ some r) × (read-at s (here r) ≡ some v)
 

@@ -1,4 +1,4 @@
--- A value taken apart: its name is void and gone, its parts are names of their own.
+-- A value taken apart: its name is empty and gone, its parts are names of their own.
 use mathlib.Core.Bool.{true, false}
 use mathlib.Core.List.{List, [], _∷_, _++_}
 use mathlib.Core.Logic.{inl, inr}

@@ -1,4 +1,4 @@
--- Reading and writing at a deep way in a tree, and at its place in the flat store.
+-- Reading and writing at a path in a tree, and at its place in the flat store.
 use mathlib.Core.Bool.{Bool, true, false}
 use mathlib.Core.List.{List, [], _∷_, _++_, append-assoc}
 use mathlib.Core.Logic.{_⊎_, inl, inr}
@@ -55,7 +55,7 @@ put-v-same nil-v i v e = refl
 put-v-same (cons-v x xs) zero v e = ap (λ z. cons-v z xs) (sym (some-is e))
 put-v-same (cons-v x xs) (suc i) v e = ap (cons-v x) (put-v-same xs i v e)
 
--- a root's mark, as a weight
+-- a root's mark, to be summed
 abbrev pub mark : ℕ → ℕ → ℕ → ℕ
 mark r i w = choose (eqb i r) 1 0
 
@@ -89,7 +89,7 @@ loc-down-step l i is t k e = ap (λ o. from-option o l (λ z. loc-down (loc-step
 pub subtree-step : (i : Step) (is : Path) (t k : Tree) → child i t ≡ some k → subtree (i ∷ is) t ≡ subtree is k
 subtree-step i is t k e = ap (λ o. if-some o (subtree is)) e
 
--- a kid put in
+-- a child put in
 pub sum-child : (f : ℕ → ℕ → ℕ) (i : Step) (t k u : Tree) → child i t ≡ some k
     → tree-sum f (set-child i u t) + tree-sum f k ≡ tree-sum f t + tree-sum f u
 sum-child f (field-step i) (int-t a) k u e = absurd (no-some e)
@@ -186,7 +186,7 @@ mutual
   storeds-other rs rs2 d v (cons-t t ts) w h s =
       (stored-other rs rs2 d v t w (omega arith) (s .0), storeds-other rs rs2 d v ts w (omega arith) (s .1))
 
--- all of that root's weight is in one field
+-- that root is in one field only
 storeds-put : (rs rs2 : List Root) (d : Loc) (v : Value) (ts : Trees) (i : ℕ) (k u : Tree) → Written rs rs2 d v → nth-t ts i ≡ some k
     → trees-sum (mark (d .root)) ts ≤ tree-sum (mark (d .root)) k → Stored-all rs ts → Stored rs2 u → Stored-all rs2 (put-t ts i u)
 storeds-put rs rs2 d v nil-t i k u w e h s su = tt
@@ -207,7 +207,7 @@ loc-down-root : (l : Loc) (q : Path) (t u : Tree) → Outcome l q t u
 loc-down-root l q t u (same-root is e f) = inl (ap (λ z. z .root) e)
 loc-down-root l q t u (in-a-box h f) = inr h
 
--- THE WRITE: the tree with u put in at q is stored in the roots after the write at the way's place
+-- writing: the tree with u put in at q is stored in the roots after the write at the path's place
 pub stored-box : (rs rs2 : List Root) (is : Path) (r w : ℕ) (t u : Tree) → Stored rs (box-t r w t) → tree-sum (mark r) t ≡ 0
     → Written rs rs2 (loc-down (here r) is t) (flat u) → Outcome (here r) is t u → Stored rs2 (replace is u t)
     → Stored rs2 (box-t r w (replace is u t))

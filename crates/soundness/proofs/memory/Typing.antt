@@ -140,7 +140,7 @@ step-case (field-step i) box-step = inr (λ e. (let z : _≡_ {A = ℕ} 0 1 = cc
 step-case box-step (field-step j) = inr (λ e. (let z : _≡_ {A = ℕ} 0 1 = cc in omega arith))
 step-case box-step box-step = inl refl
 
--- THE REFERENCES THAT STAY: not strictly below the place, they lead to a tree of their type, where it lay
+-- references that stay: not strictly below the place, they lead to a tree of their type, where it lay
 abbrev pub Ref-stays : List Data → Loc → Path → Path → Tree → Tree → Ty → Type 0
 Ref-stays ds l q way x y t =
     (part2 : Tree) × (subtree way (replace q y x) ≡ some part2) × Typed ds part2 t × (loc-down l way (replace q y x) ≡ loc-down l way x)

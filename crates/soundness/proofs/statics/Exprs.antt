@@ -43,18 +43,18 @@ env-is : (g : Env) (t : Ty) (ls : List Loan) (h : Env) (r : Typed) → Env-like 
 env-is g t ls h r l e = subst (λ z. Env-like g (z .env)) (some-is e) l
 
 value-like : (held : List Loan) (g : Env) (v : Var) (t : Ty) (r : Typed) → value held g v t ≡ some r → Env-like g (r .env)
-value-like held g v int r e = env-is g int [] g r (like-self g) (only-is _ _ r e .1)
-value-like held g v (dat d) r e = env-is g (dat d) [] (set-gone true g (v .name)) r (like-gone true g (v .name)) (only-is _ _ r e .1)
-value-like held g v (box t) r e = env-is g (box t) [] (set-gone true g (v .name)) r (like-gone true g (v .name)) (only-is _ _ r e .1)
-value-like held g v (ref t) r e = env-is g (ref t) (v .loans) g r (like-self g) (only-is _ _ r e .1)
-value-like held g v (mut t) r e = env-is g (mut t) (loan (v .name) true ∷ []) g r (like-self g) (only-is _ _ r e .1)
+value-like held g v int r e = env-is g _ _ g r (like-self g) (only-is _ _ r e .1)
+value-like held g v (dat d) r e = env-is g _ _ (set-gone true g (v .name)) r (like-gone true g (v .name)) (only-is _ _ r e .1)
+value-like held g v (box t) r e = env-is g _ _ (set-gone true g (v .name)) r (like-gone true g (v .name)) (only-is _ _ r e .1)
+value-like held g v (ref t) r e = env-is g _ _ g r (like-self g) (only-is _ _ r e .1)
+value-like held g v (mut t) r e = env-is g _ _ g r (like-self g) (only-is _ _ r e .1)
 
 shared-like : (held : List Loan) (g : Env) (v : Var) (t : Ty) (r : Typed) → shared held g v t ≡ some r → Env-like g (r .env)
-shared-like held g v int r e = env-is g (ref int) (loan (v .name) false ∷ []) g r (like-self g) (only-is _ _ r e .1)
-shared-like held g v (dat d) r e = env-is g (ref (dat d)) (loan (v .name) false ∷ []) g r (like-self g) (only-is _ _ r e .1)
-shared-like held g v (box t) r e = env-is g (ref (box t)) (loan (v .name) false ∷ []) g r (like-self g) (only-is _ _ r e .1)
+shared-like held g v int r e = env-is g _ _ g r (like-self g) (only-is _ _ r e .1)
+shared-like held g v (dat d) r e = env-is g _ _ g r (like-self g) (only-is _ _ r e .1)
+shared-like held g v (box t) r e = env-is g _ _ g r (like-self g) (only-is _ _ r e .1)
 shared-like held g v (ref t) r e = absurd (no-some e)
-shared-like held g v (mut t) r e = env-is g (ref t) (loan (v .name) false ∷ []) g r (like-self g) (only-is _ _ r e .1)
+shared-like held g v (mut t) r e = env-is g _ _ g r (like-self g) (only-is _ _ r e .1)
 
 mutual
   pub expr-like : (q : Prog) (held : List Loan) (g : Env) (e : Expr) (r : Typed) → expr q held g e ≡ some r → Env-like g (r .env)

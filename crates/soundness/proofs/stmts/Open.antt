@@ -32,7 +32,7 @@ use Rattle.soundness.proofs.Safety.{safe-need}
 use Rattle.soundness.proofs.stmts.Stores.{typed-there}
 use Rattle.soundness.proofs.statics.Inversion.{Open-rule, open-rule}
 
--- a box in flight, under the box that's to end: what's in it, in flight
+-- a box in flight: what is in it, in flight, under the box that is to end
 open-shell : (ds : List Data) (e : Entry) (N : List Entry) (r w : ℕ) (x : Tree) (t : Ty) (T : List Tree) (s : State) (v : Value) → e .at ≡ in-flight v
     → 1 ≤ w → Stored (s .roots) (box-t r w x) → Typed ds x t → Invariant ds (e ∷ N) (box-t r w x ∷ T) s
     → Invariant ds (shell r w ∷ (owned-entry x t ∷ N)) (hole-t ∷ (x ∷ T)) s

@@ -1,4 +1,4 @@
--- The steps for let, print, if and while.
+-- The steps for let, put, if and while.
 use mathlib.Core.Bool.{true, false}
 use mathlib.Core.List.{List, [], _∷_, _++_}
 use mathlib.Core.Option.{some}
@@ -73,7 +73,7 @@ int-then q m u h {A} Q f C ln g d F T s e1 r e ty sc w go =
     safe-need Q _ _ _ (nm .2)
     (go (nm .0) (a .F) (po .0) t (a .under) (record { names = a .names; above = λ l i. absurd i; under = sc .under }) (po .1))))
 
--- print e
+-- put e
 pub show-step : (q : Prog) (m : Limits) (u : ℕ) → Preserved q m u
     → (C : List Entry) (ln : List Level-loan) (g g2 : ch.Env) (d : me.Env) (F : List Entry) (T : List Tree) (s : State) (e1 : Expr)
     → ch.stmt q g (put-s e1) ≡ some g2 → Frame C ln [] g d [] F → Invariant (q .datas) (F ++ C) T s

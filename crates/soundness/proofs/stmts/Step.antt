@@ -1,4 +1,4 @@
--- The whole step for a statement, case by case.
+-- The step for a statement, case by case.
 use mathlib.Core.Bool.{true}
 use mathlib.Core.Path.{_≡_}
 use Prim.Native.Nat.{ℕ, suc}

@@ -64,7 +64,7 @@ assign-step q m u h C ln g g2 d F T s x e1 e sc w =
     (drop-old q m u h C ln g2 d (sw .F) (sw .old ∷ sw .T) (sw .s2) (s .under) (removed-entry (sw .old) (vx .gone) (vx .ty)) (flat (sw .old)) refl
     (sw .under ∙ a .under) (subst (λ k. Scope (length C) ln k d (sw .F)) (i .behind) (sw .names)) (sw .world))))))
 
--- a value on top goes in where a mut points that's free
+-- a value on top goes in at the place of a free mut
 pub record Put (ds : List Data) (N : List Entry) (y : Tree) (s : State) (u : Ty) (w : Value) : Type 0 where
   pub loc : Loc
   pub old : Tree
