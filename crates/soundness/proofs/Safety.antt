@@ -81,5 +81,5 @@ preserved-zero q m = record {
 pub after-weak : (q : Prog) (C : List Entry) (ln : List Level-loan) (g h : ch.Env) (d : me.Env) (k : ℕ) (d2 : me.Env) (s : State) → Weaker g h
     → After-exec q C ln g d k d2 s → After-exec q C ln h d k d2 s
 after-weak q C ln g h d k d2 s wk a =
-    let r = weak-frame (q .datas) (length C) ln g h d2 [] (a .F) C (a .T) s wk (a .names) (a .world) in
-    record { newer = a .newer; grown = a .grown; F = with-flags h (a .F); T = a .T; names = r .0; world = r .1; under = a .under }
+    let r = weak-frame (q .datas) (length C) ln g h d2 [] (a .F) C (a .T) s wk (a .names) (a .invariant) in
+    record { newer = a .newer; grown = a .grown; F = with-flags h (a .F); T = a .T; names = r .0; invariant = r .1; under = a .under }

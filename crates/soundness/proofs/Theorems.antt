@@ -72,7 +72,7 @@ first-world : (q : Prog) (ins : List ℕ) → Invariant (q .datas) [] [] (blank 
 first-world q ins =
     record {
       borrows = record { exclusivity = tt; anchored = tt };
-      fine = tt;
+      entries = tt;
       sums = λ f. refl;
       counted = record { by-size = λ k. refl; in-all = refl };
     }
@@ -96,5 +96,5 @@ live-total i (r ∷ rs) = ap (λ z. choose (r .live) 1 0 + z) (live-total (suc i
 pub nothing-left : «Nothing-left»
 nothing-left u m q ins v s o e =
     let a : After-call q [] [] int 0 v s = ended (subst (Safe (After-call q [] [] int 0)) e (run-ok u m q ins o)) in
-    let w = pop-int (q .datas) (a .top) [] (a .T) s v (a .flight) (a .world) in
+    let w = pop-int (q .datas) (a .top) [] (a .T) s v (a .value-entry) (a .invariant) in
     (sym (live-total 0 (s .roots)) ∙ sym (w .1 .sums (λ j k. 1)), w .1 .counted .in-all ∙ sym (w .1 .sums is-box), a .under)

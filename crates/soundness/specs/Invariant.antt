@@ -101,6 +101,6 @@ pub record Counted (s : State) : Type 0 where
 
 pub record Invariant (ds : List Data) (N : List Entry) (T : List Tree) (s : State) : Type 0 where
   pub borrows : Well-borrowed (kinds N)
-  pub fine : Entries-ok ds (s .roots) N T
+  pub entries : Entries-ok ds (s .roots) N T
   pub sums : (f : ℕ → ℕ → ℕ) → stack-sum f N T ≡ live-sum f 0 (s .roots)
   pub counted : Counted s

@@ -35,10 +35,10 @@ pub record After-eval (q : Prog) (C : List Entry) (lent1 : List Level-loan) (d :
   pub top : Entry
   pub F : List Entry
   pub T : List Tree
-  pub flight : Value-entry v (r .ty) top
+  pub value-entry : Value-entry v (r .ty) top
   pub covered : Loans-cover (length C) lent1 (r .env) (r .loans) (loans-of (top .kind))
   pub names : Scope (length C) lent1 (r .env) d F
-  pub world : Invariant (q .datas) (top ∷ (H ++ (F ++ C))) T s
+  pub invariant : Invariant (q .datas) (top ∷ (H ++ (F ++ C))) T s
   pub under : s .under ≡ k
 
 pub record After-args (q : Prog) (C : List Entry) (lent1 : List Level-loan) (d : me.Env) (A H : List Entry) (ts : List Ty) (r : ch.Typed) (k : ℕ)
@@ -46,19 +46,19 @@ pub record After-args (q : Prog) (C : List Entry) (lent1 : List Level-loan) (d :
   pub K : List Entry
   pub F : List Entry
   pub T : List Tree
-  pub flown : Arguments (K ++ A) ts vs
+  pub arguments : Arguments (K ++ A) ts vs
   pub covered : Loans-cover (length C) lent1 (r .env) (r .loans) (all-loans-of K)
   pub names : Scope (length C) lent1 (r .env) d F
-  pub world : Invariant (q .datas) (K ++ ((A ++ H) ++ (F ++ C))) T s
+  pub invariant : Invariant (q .datas) (K ++ ((A ++ H) ++ (F ++ C))) T s
   pub under : s .under ≡ k
 
 -- behind a call: what it gives, with no loans but those that the arguments came with
 pub record After-call (q : Prog) (C A : List Entry) (t : Ty) (k : ℕ) (v : Value) (s : State) : Type 0 where
   pub top : Entry
   pub T : List Tree
-  pub flight : Value-entry v t top
+  pub value-entry : Value-entry v t top
   pub loans : (l : Level-loan) → In l (loans-of (top .kind)) → In l (all-loans-of A)
-  pub world : Invariant (q .datas) (top ∷ C) T s
+  pub invariant : Invariant (q .datas) (top ∷ C) T s
   pub under : s .under ≡ k
 
 -- behind what's given: it stands under the frame, whose references are used no more
@@ -66,11 +66,11 @@ pub record After-give (q : Prog) (C : List Entry) (lent1 : List Level-loan) (h :
   pub top : Entry
   pub F : List Entry
   pub T : List Tree
-  pub flight : Value-entry v t top
+  pub value-entry : Value-entry v t top
   pub loans : (l : Level-loan) → In l (loans-of (top .kind)) → In l lent1
   pub named : Roots-named h F
   pub no-refs : No-borrows (kinds F)
-  pub world : Invariant (q .datas) (F ++ (top ∷ C)) T s
+  pub invariant : Invariant (q .datas) (F ++ (top ∷ C)) T s
   pub under : s .under ≡ k
 
 -- behind statements: newer names on top
@@ -80,13 +80,13 @@ pub record After-exec (q : Prog) (C : List Entry) (lent1 : List Level-loan) (g :
   pub F : List Entry
   pub T : List Tree
   pub names : Scope (length C) lent1 g d2 F
-  pub world : Invariant (q .datas) (F ++ C) T s
+  pub invariant : Invariant (q .datas) (F ++ C) T s
   pub under : s .under ≡ k
 
 -- behind what ends: the rest of the stack
 pub record After-end (q : Prog) (N : List Entry) (k : ℕ) (s : State) : Type 0 where
   pub T : List Tree
-  pub world : Invariant (q .datas) N T s
+  pub invariant : Invariant (q .datas) N T s
   pub under : s .under ≡ k
 
 -- what a match looks at

@@ -40,7 +40,7 @@ bodies-suc q m u o hyp C ln g d k h F T s qs t (body ss tl) e lp d-is sc w = go 
         behind i z a =
             safe-then Post (hyp .tails-ok C ln g2 i (a .F) (a .T) z qs t tl e1
             (grows-lent qs g g2 (stmts-grows q g ss g2 (scope-distinct (length C) ln g d F (sc .names)) eq) lp)
-            (record { names = a .names; above = λ l j. absurd j; under = sc .under }) (a .world))
+            (record { names = a .names; above = λ l j. absurd j; under = sc .under }) (a .invariant))
             given
           where
             i-is : i ≡ (a .newer ++ k) ++ h
@@ -55,17 +55,17 @@ bodies-suc q m u o hyp C ln g d k h F T s qs t (body ss tl) e lp d-is sc w = go 
                 subst (λ j. Safe Post (me.then (ends u m q j y) (λ j1 x. me.ok v x))) (sym new-is)
                 (safe-then Post (hyp .ends-ok (pa .0) (pa .1 ++ (b .top ∷ C)) (b .T) y (a .newer ++ k) (pa .3)
                 (subst (λ j. Invariant (q .datas) j (b .T) y)
-                (ap (λ j. j ++ (b .top ∷ C)) (pa .2) ∙ append-assoc (pa .0) (pa .1) (b .top ∷ C)) (b .world)))
+                (ap (λ j. j ++ (b .top ∷ C)) (pa .2) ∙ append-assoc (pa .0) (pa .1) (b .top ∷ C)) (b .invariant)))
                 (λ j x f. safe-ok (record {
                   top = b .top;
                   F = pa .1;
                   T = f .T;
-                  flight = b .flight;
+                  value-entry = b .value-entry;
                   loans = b .loans;
                   named = pa .4;
                   no-refs = no-borrows-under
                       (pa .0) (pa .1) (subst (λ y1. No-borrows (kinds y1)) (pa .2) (b .no-refs));
-                  world = f .world;
+                  invariant = f .invariant;
                   under = f .under
                       ∙ b .under ∙ a .under;
                 })))

@@ -131,7 +131,7 @@ pub record Entered (ds : List Data) (X C : List Entry) (ln : List Level-loan) (T
   pub F : List Entry
   pub named : names-in [] s (names-of ps) (list-of vs) ≡ some env
   pub names : Scope (length C) ln (pars-env ps []) env F
-  pub world : Invariant ds (X ++ (F ++ C)) T (roots-in s (list-of vs))
+  pub invariant : Invariant ds (X ++ (F ++ C)) T (roots-in s (list-of vs))
 
 entered-one : (ds : List Data) (X C : List Entry) (ln : List Level-loan) (T : List Tree) (s : State) (qs : List Param) (y : Param) (vs1 : Values)
     (e1 : Entry) (t : Ty) (v : Value) → y .ty ≡ t → Value-entry v t e1 → is-in (y .name) (names-of-pars qs) ≡ false
@@ -155,7 +155,7 @@ entered-one ds X C ln T s qs y vs1 e1 t v t-is fg out low h = record {
     },
     h .names,
   );
-  world =
+  invariant =
       subst (Invariant ds (X ++ (with-root e1 r ∷ (h .F ++ C))) T) (sym (roots-last s vs1 v))
       (root-mid ds X e1 v (h .F ++ C) T (roots-in s (list-of vs1)) (fg .place) w2);
 }
@@ -164,12 +164,12 @@ entered-one ds X C ln T s qs y vs1 e1 t v t-is fg out low h = record {
     r = length (roots-in s (list-of vs1) .roots)
 
     w2 : Invariant ds (X ++ (e1 ∷ (h .F ++ C))) T (roots-in s (list-of vs1))
-    w2 = subst (λ z. Invariant ds z T (roots-in s (list-of vs1))) (append-assoc X (e1 ∷ []) (h .F ++ C)) (h .world)
+    w2 = subst (λ z. Invariant ds z T (roots-in s (list-of vs1))) (append-assoc X (e1 ∷ []) (h .F ++ C)) (h .invariant)
 
 pub entered : (ds : List Data) (X C : List Entry) (ln : List Level-loan) (T : List Tree) (s : State) (ps : List Param) (A : List Entry) (ts : List Ty)
     (vs : Values) → Arguments A ts vs → types-of-pars ps ≡ ts → no-twice (names-of-pars ps) ≡ true
     → ((l : Level-loan) → In l (all-loans-of A) → In l ln) → Invariant ds (X ++ (A ++ C)) T s → Entered ds X C ln T s ps vs
-entered ds X C ln T s [] [] [] nil-v no-args e nt low w = record { env = []; F = []; named = refl; names = tt; world = w }
+entered ds X C ln T s [] [] [] nil-v no-args e nt low w = record { env = []; F = []; named = refl; names = tt; invariant = w }
 entered ds X C ln T s (x ∷ ps) [] [] nil-v no-args e nt low w = absurd (let k : suc (length (types-of-pars ps)) ≡ 0 = ap length e in omega arith)
 entered ds X C ln T s ps A ts vs (snoc-arg {A = A1} {ts = ts1} {vs = vs1} e1 t v fl fg) e nt low w =
     let sp = types-last ps ts1 t e in
@@ -184,16 +184,16 @@ entered ds X C ln T s ps A ts vs (snoc-arg {A = A1} {ts = ts1} {vs = vs1} e1 t v
 -- the call
 given-call : (q : Prog) (C A : List Entry) (t : Ty) (j k : ℕ) (v : Value) (s : State) → After-give q C (all-loans-of A) [] t j v s
     → After-call q C A t k v (with-under s k)
-given-call q C A t j k v s a = go (a .F) (a .named) (a .world)
+given-call q C A t j k v s a = go (a .F) (a .named) (a .invariant)
   where
     go : (F : List Entry) → Roots-named [] F → Invariant (q .datas) (F ++ (a .top ∷ C)) (a .T) s → After-call q C A t k v (with-under s k)
     go [] nm w =
         record {
           top = a .top;
           T = a .T;
-          flight = a .flight;
+          value-entry = a .value-entry;
           loans = a .loans;
-          world = invariant-same (q .datas) (a .top ∷ C) (a .T) s
+          invariant = invariant-same (q .datas) (a .top ∷ C) (a .T) s
               (with-under s k) refl refl w;
           under = refl;
         }
@@ -207,7 +207,7 @@ calls-suc q m u o h C A T s f vs ok1 fl low w =
     (safe-need (After-give q C ln [] (f .ret) (roots-in s2 (list-of vs) .under)) _ _ _ (en .named)
     (h .bodies-ok C ln (pars-env (f .pars) []) (en .env) (en .env) [] (en .F) T (roots-in s2 (list-of vs)) (ref-pars (f .pars)) (f .ret)
     (f .does) is-b (lent-of (f .pars) [] nt) (sym (append-nil (en .env)))
-    (record { names = en .names; above = λ l i. absurd i; under = low }) (en .world)))
+    (record { names = en .names; above = λ l i. absurd i; under = low }) (en .invariant)))
     (λ v t a. given-call q C A (f .ret) (roots-in s2 (list-of vs) .under) (s .under) v t a))
   where
     ln : List Level-loan

@@ -39,17 +39,17 @@ split-by (e ∷ F) C (x ∷ T) h = let r = split-by F C T (omega arith) in (x �
 pub give-after : (q : Prog) (C : List Entry) (ln : List Level-loan) (g : ch.Env) (d : me.Env) (qs : List Lexeme) (r : ch.Typed) (k : ℕ) (v : Value)
     (s : State) (n1 : ℕ) → Env-like g (r .env) → Ref-params qs g → ((l : Level-loan) → In l ln → l .level < length C)
     → from-caller n1 g qs (r .loans) ≡ true → After-eval q C ln d [] r k v s → After-give q C ln d (r .ty) k v s
-give-after q C ln g d qs r k v s n1 lk lp low fc a = by-tree (a .T) (a .world)
+give-after q C ln g d qs r k v s n1 lk lp low fc a = by-tree (a .T) (a .invariant)
   where
     F : List Entry
     F = a .F
 
     by-tree : (T : List Tree) → Invariant (q .datas) (a .top ∷ (F ++ C)) T s → After-give q C ln d (r .ty) k v s
-    by-tree [] w = absurd (w .fine)
+    by-tree [] w = absurd (w .entries)
     by-tree (x ∷ T) w = by-shape1 (a .top .kind) refl
       where
         sp : (T1 : List Tree) × (T2 : List Tree) × (T ≡ T1 ++ T2) × (length F ≡ length T1) × (length T2 ≡ length C)
-        sp = split-by F C T (entries-length (q .datas) (s .roots) (F ++ C) T (w .fine .1))
+        sp = split-by F C T (entries-length (q .datas) (s .roots) (F ++ C) T (w .entries .1))
 
         w2 : Invariant (q .datas) (a .top ∷ (F ++ C)) (x ∷ (sp .0 ++ sp .1)) s
         w2 = subst (λ z. Invariant (q .datas) (a .top ∷ (F ++ C)) (x ∷ z) s) (sp .2) w
@@ -60,11 +60,11 @@ give-after q C ln g d qs r k v s n1 lk lp low fc a = by-tree (a .T) (a .world)
           top = record { at = a .top .at; gone = a .top .gone; kind = sh };
           F = retired F;
           T = sp .0 ++ (x ∷ sp .1);
-          flight = record { place = a .flight .place; flag = a .flight .flag; type = su };
+          value-entry = record { place = a .value-entry .place; flag = a .value-entry .flag; type = su };
           loans = lo1;
           named = retired-named (length C) ln (r .env) d F (a .names);
           no-refs = retired-no-borrows F;
-          world =
+          invariant =
               give-below (q .datas) (length C) ln (r .env) d (a .top) (record { at = a .top .at; gone = a .top .gone; kind = sh }) F C x (sp .0)
               (sp .1) s (a .names) (sp .3) refl sn f1 w2;
           under = a .under;
@@ -77,20 +77,20 @@ give-after q C ln g d qs r k v s n1 lk lp low fc a = by-tree (a .T) (a .world)
 
         by-shape1 : (sh : Kind) → a .top .kind ≡ sh → After-give q C ln d (r .ty) k v s
         by-shape1 (own t) e =
-            finish (own t) (subst (Kind-fits (r .ty)) e (a .flight .type)) (λ l i. absurd i)
+            finish (own t) (subst (Kind-fits (r .ty)) e (a .value-entry .type)) (λ l i. absurd i)
             (push-own (kinds C) (borrows-under F C (pop-borrows (a .top .kind) (kinds (F ++ C)) (w .borrows))) t)
-            (subst (λ z. Entry-ok (q .datas) (s .roots) (a .top .at) (a .top .gone) z x (F ++ C) (sp .0 ++ sp .1)) e (w2 .fine .0))
+            (subst (λ z. Entry-ok (q .datas) (s .roots) (a .top .at) (a .top .gone) z x (F ++ C) (sp .0 ++ sp .1)) e (w2 .entries .0))
         by-shape1 (borrow al t b ls) e =
             let sn1 : Well-borrowed (borrow al t b ls ∷ kinds (F ++ C)) = subst (λ z. Well-borrowed (z ∷ kinds (F ++ C))) e (w .borrows) in
-            let f1 = subst (λ z. Entry-ok (q .datas) (s .roots) (a .top .at) (a .top .gone) z x (F ++ C) (sp .0 ++ sp .1)) e (w2 .fine .0) in
+            let f1 = subst (λ z. Entry-ok (q .datas) (s .roots) (a .top .at) (a .top .gone) z x (F ++ C) (sp .0 ++ sp .1)) e (w2 .entries .0) in
             let cov : Loans-cover (length C) ln (r .env) (r .loans) ls = subst (λ z. Loans-cover (length C) ln (r .env) (r .loans) (loans-of z)) e
             (a .covered) in
             let oc = from-caller-ok C ln (r .env) d F qs (a .names) (sn1 .anchored .1) (lent-like qs g (r .env) lk lp) n1 (r .loans) ls (b .owner)
             (from-caller-like n1 g (r .env) qs (r .loans) lk fc) cov (sn1 .anchored .0 .1) in
             let gs = given-borrows C ln (r .env) d F (r .loans) al t b ls (a .names) low cov oc sn1 in
-            finish (borrow al t b ln) (suits-lent al t b ls (subst (Kind-fits (r .ty)) e (a .flight .type))) (λ l i. i) (gs .0)
+            finish (borrow al t b ln) (suits-lent al t b ls (subst (Kind-fits (r .ty)) e (a .value-entry .type))) (λ l i. i) (gs .0)
             (f1 .0, (f1 .1 .0, f1 .1 .1, valid-ref-down (q .datas) F C (sp .0) (sp .1) t b (f1 .1 .0) (sp .4) (gs .1) (f1 .1 .2)))
-        by-shape1 inert e = absurd (subst (Kind-fits (r .ty)) e (a .flight .type))
+        by-shape1 inert e = absurd (subst (Kind-fits (r .ty)) e (a .value-entry .type))
 
 -- the case give e of tails
 pub give-step : (q : Prog) (m : Limits) (u : ℕ) → Preserved q m u

@@ -22,29 +22,29 @@ use Rattle.soundness.proofs.Safety.{safe-then, safe-need, safe-under, safe-cho
 
 pub drops-all-suc : (q : Prog) (m : Limits) (u : ℕ) → ch.accepts q ≡ true → Preserved q m u → Drops-all-ok q m (suc u)
 unfolding me.eval
-drops-all-suc q m u o h [] N T s nil-v fa w = safe-ok (record { T = T; world = w; under = refl })
+drops-all-suc q m u o h [] N T s nil-v fa w = safe-ok (record { T = T; invariant = w; under = refl })
 drops-all-suc q m u o h [] N T s (cons-v v vs) fa w = absurd fa
 drops-all-suc q m u o h (e ∷ K) N T s nil-v fa w = absurd fa
 drops-all-suc q m u o h (e ∷ K) N T s (cons-v v vs) fa w =
     safe-then (λ k t. After-end q N (s .under) t) (h .drops-ok e (K ++ N) T s v (fa .0) w)
     (λ k t a. subst (λ z. Safe (λ k t. After-end q N z t) (drops-all u m q vs t)) (a .under)
-    (h .drops-all-ok K N (a .T) t vs (fa .1) (a .world)))
+    (h .drops-all-ok K N (a .T) t vs (fa .1) (a .invariant)))
 
 pub ends-suc : (q : Prog) (m : Limits) (u : ℕ) → ch.accepts q ≡ true → Preserved q m u → Ends-ok q m (suc u)
 unfolding me.eval
-ends-suc q m u o h [] N T s [] nm w = safe-ok (record { T = T; world = w; under = refl })
+ends-suc q m u o h [] N T s [] nm w = safe-ok (record { T = T; invariant = w; under = refl })
 ends-suc q m u o h [] N T s (x ∷ d) nm w = absurd nm
 ends-suc q m u o h (e ∷ K) N T s [] nm w = absurd nm
-ends-suc q m u o h (e ∷ K) N [] s (x ∷ d) nm w = absurd (w .fine)
+ends-suc q m u o h (e ∷ K) N [] s (x ∷ d) nm w = absurd (w .entries)
 ends-suc q m u o h (e ∷ K) N (y ∷ T) s (x ∷ d) nm w =
     let tv = top-value q (s .roots) (x .root) (e .gone) (e .kind) y (K ++ N) T
-    (subst (λ z. Entry-ok (q .datas) (s .roots) z (e .gone) (e .kind) y (K ++ N) T) (nm .0) (w .fine .0)) in
+    (subst (λ z. Entry-ok (q .datas) (s .roots) z (e .gone) (e .kind) y (K ++ N) T) (nm .0) (w .entries .0)) in
     safe-need (λ k t. After-end q N (s .under) t) _ _ _ (reads s (x .root) (tv .0) 0 (tv .1))
     (safe-then (λ k t. After-end q N (s .under) t)
     (subst (λ z. Safe (λ k t. After-end q (K ++ N) z t) (drops u m q (tv .0) (kill s (x .root)))) (killed-under s (x .root))
     (h .drops-ok (unrooted e (tv .0)) (K ++ N) (y ∷ T) (kill s (x .root)) (tv .0) refl
     (kill-top (q .datas) e (K ++ N) y T s (x .root) (tv .0) (nm .0) (tv .1) w)))
-    (λ k t a. subst (λ z. Safe (λ k t. After-end q N z t) (ends u m q d t)) (a .under) (h .ends-ok K N (a .T) t d (nm .1) (a .world))))
+    (λ k t a. subst (λ z. Safe (λ k t. After-end q N z t) (ends u m q d t)) (a .under) (h .ends-ok K N (a .T) t d (nm .1) (a .invariant))))
 
 pub parts-suc : (q : Prog) (m : Limits) (u : ℕ) → ch.accepts q ≡ true → Preserved q m u → Parts-ok q m (suc u)
 unfolding me.eval
@@ -52,7 +52,7 @@ parts-suc q m u o h N (int-t k) T s w ty wo = absurd ty
 parts-suc q m u o h N (con-t k ts) T s w ty wo =
     h .drops-all-ok (owned-entries ts (ty .0 .ctor1 .fields)) N (trees-of ts ++ T) s (flats ts)
     (parts-dropping (q .datas) ts (ty .0 .ctor1 .fields) (ty .3))
-    (open-con (q .datas) (owned-entry (con-t k ts) (dat w)) N k ts (ty .0 .ctor1 .fields) T s (flat (con-t k ts)) refl (wo .fine .0 .1) (ty .3) wo)
+    (open-con (q .datas) (owned-entry (con-t k ts) (dat w)) N k ts (ty .0 .ctor1 .fields) T s (flat (con-t k ts)) refl (wo .entries .0 .1) (ty .3) wo)
 parts-suc q m u o h N (box-t r k x) T s w ty wo = absurd ty
 parts-suc q m u o h N hole-t T s w ty wo = absurd ty
 
@@ -62,9 +62,9 @@ drop-own : (q : Prog) (m : Limits) (u : ℕ) → ch.accepts q ≡ true → Prese
     → Safe (λ k z. After-end q N (s .under) z) (drops (suc u) m q (flat x) s)
 unfolding me.eval
 drop-own q m u o h e N (int-t k) T s v gone t at-is st ct w =
-    safe-ok (record { T = T; world = pop-top (q .datas) e N (int-t k) T s v at-is (λ f. refl) w; under = refl })
+    safe-ok (record { T = T; invariant = pop-top (q .datas) e N (int-t k) T s v at-is (λ f. refl) w; under = refl })
 drop-own q m u o h e N hole-t T s v gone t at-is st ct w =
-    safe-ok (record { T = T; world = pop-top (q .datas) e N hole-t T s v at-is (λ f. refl) w; under = refl })
+    safe-ok (record { T = T; invariant = pop-top (q .datas) e N hole-t T s v at-is (λ f. refl) w; under = refl })
 drop-own q m u o h e N (con-t k ts) T s v gone t at-is st (inr ct) w =
     absurd (let z : con-t k ts ≡ hole-t = ct .1 in let z2 : _≡_ {A = ℕ} 0 1 = cc in omega arith)
 drop-own q m u o h e N (con-t k ts) T s v gone int at-is st (inl ty) w = absurd ty
@@ -93,11 +93,11 @@ drop-own q m u o h e N (box-t r k x) T s v gone (box t) at-is st (inl ty) w =
     (h .drops-ok (owned-entry x t) (shell r k ∷ N) (x ∷ (hole-t ∷ T)) s2 (flat x) refl
     (invariant-same (q .datas) (owned-entry x t ∷ (shell r k ∷ N)) (x ∷ (hole-t ∷ T)) s s2 refl refl
     (open-box (q .datas) e N r k x t T s v at-is k-pos st (ty .1) w)))
-    (λ k1 z a. (let eb = end-box-top (q .datas) N r k (a .T) z k-pos (a .world) in
-    safe-ok (record { T = eb .0; world = eb .1; under = ended-under z r ∙ a .under }))))
+    (λ k1 z a. (let eb = end-box-top (q .datas) N r k (a .T) z k-pos (a .invariant) in
+    safe-ok (record { T = eb .0; invariant = eb .1; under = ended-under z r ∙ a .under }))))
     (λ k1 z a. record {
       T = a .T;
-      world = invariant-same (q .datas) N (a .T) z (with-under z (s .under)) refl refl (a .world);
+      invariant = invariant-same (q .datas) N (a .T) z (with-under z (s .under)) refl refl (a .invariant);
       under = refl;
     }))
 drop-own q m u o h e N (box-t r k x) T s v gone (ref t) at-is st (inl ty) w = absurd ty
@@ -108,15 +108,15 @@ hole-sum x e f = ap (tree-sum f) e
 
 pub drops-suc : (q : Prog) (m : Limits) (u : ℕ) → ch.accepts q ≡ true → Preserved q m u → Drops-ok q m (suc u)
 unfolding me.eval
-drops-suc q m u o h e N [] s v at-is w = absurd (w .fine)
+drops-suc q m u o h e N [] s v at-is w = absurd (w .entries)
 drops-suc q m u o h e N (x ∷ T) s v at-is w =
-    by-shape1 (e .kind) (subst (λ z. Entry-ok (q .datas) (s .roots) z (e .gone) (e .kind) x N T) at-is (w .fine .0))
+    by-shape1 (e .kind) (subst (λ z. Entry-ok (q .datas) (s .roots) z (e .gone) (e .kind) x N T) at-is (w .entries .0))
   where
     Goal : Value → Type 0
     Goal y = Safe (λ k z. After-end q N (s .under) z) (drops (suc u) m q y s)
 
     idle : (x ≡ hole-t) → (l : Loc) → v ≡ ref-v l → Goal v
-    idle xv l e1 = subst Goal (sym e1) (safe-ok (record { T = T; world = pop-top (q .datas) e N x T s v at-is (hole-sum x xv) w; under = refl }))
+    idle xv l e1 = subst Goal (sym e1) (safe-ok (record { T = T; invariant = pop-top (q .datas) e N x T s v at-is (hole-sum x xv) w; under = refl }))
 
     by-shape1 : (sh : Kind) → Entry-ok (q .datas) (s .roots) (in-flight v) (e .gone) sh x N T → Goal v
     by-shape1 (own t) f = subst Goal (sym (f .0)) (drop-own q m u o h e N x T s v (e .gone) t at-is (f .1) (f .3) w)

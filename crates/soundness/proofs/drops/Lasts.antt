@@ -61,7 +61,7 @@ push-mut ds N r t x T s ty w = record {
       w .borrows .anchored,
     );
   };
-  fine = (
+  entries = (
     (
       refl,
       (
@@ -72,14 +72,14 @@ push-mut ds N r t x T s ty w = record {
           whole = x;
           part = x;
           standing = level-at (rooted r 0) (places N) (length N) (places-length N);
-          holding = level-at x T (length N) (entries-length ds (s .roots) N T (w .fine .1));
+          holding = level-at x T (length N) (entries-length ds (s .roots) N T (w .entries .1));
           leading = refl;
           typed = ty;
           value = refl;
         },
       ),
     ),
-    w .fine,
+    w .entries,
   );
   sums = λ f. (let a = w .sums f in omega arith);
   counted = w .counted;
@@ -90,9 +90,9 @@ unfolding me.eval
 lasts-suc q m u o h N x T s w f okf pars ret ty wo =
     safe-then (λ k z. After-end q N (s .under) z) (subst (λ z. Safe (After-call q C A z (s .under)) (calls u m q f (ref-v (here r) ∷ []) s1)) ret
     (h .calls-ok C A (hole-t ∷ (x ∷ T)) s1 f (cons-v (ref-v (here r)) nil-v) okf
-    (subst (λ z. Arguments A z (cons-v (ref-v (here r)) nil-v)) (sym pars) flown) (λ l i. low l i)
+    (subst (λ z. Arguments A z (cons-v (ref-v (here r)) nil-v)) (sym pars) arguments) (λ l i. low l i)
     (push-mut (q .datas) N r (dat w) x T s1 ty (root-top (q .datas) (owned-entry x (dat w)) N x T s (flat x) refl wo))))
-    (λ k z a. after z (a .under) (pop-int (q .datas) (a .top) C (a .T) z k (a .flight) (a .world)))
+    (λ k z a. after z (a .under) (pop-int (q .datas) (a .top) C (a .T) z k (a .value-entry) (a .invariant)))
   where
     r : ℕ
     r = length (s .roots)
@@ -106,8 +106,8 @@ lasts-suc q m u o h N x T s w f okf pars ret ty wo =
     A : List Entry
     A = mut-entry N r (dat w) ∷ []
 
-    flown : Arguments A (mut (dat w) ∷ []) (cons-v (ref-v (here r)) nil-v)
-    flown = snoc-arg (mut-entry N r (dat w)) (mut (dat w)) (ref-v (here r)) no-args (record { place = refl; flag = refl; type = refl })
+    arguments : Arguments A (mut (dat w) ∷ []) (cons-v (ref-v (here r)) nil-v)
+    arguments = snoc-arg (mut-entry N r (dat w)) (mut (dat w)) (ref-v (here r)) no-args (record { place = refl; flag = refl; type = refl })
 
     low : (l : Level-loan) → In l (all-loans-of A) → l .level < length C
     low l (inl e) = let k : l .level ≡ length N = ap (λ z. z .level) e in omega arith
@@ -119,9 +119,9 @@ lasts-suc q m u o h N x T s w f okf pars ret ty wo =
       where
         go : (U : List Tree) → Invariant (q .datas) C U z
             → Safe (λ k y. After-end q N (s .under) y) (me.need z (read-at z (here r)) (λ y. parts-of u m q y (kill z r)))
-        go [] w3 = absurd (w3 .fine)
+        go [] w3 = absurd (w3 .entries)
         go (y ∷ U2) w3 =
-            safe-need (λ k y1. After-end q N (s .under) y1) _ _ _ (reads z r (flat y) 0 (w3 .fine .0 .0))
+            safe-need (λ k y1. After-end q N (s .under) y1) _ _ _ (reads z r (flat y) 0 (w3 .entries .0 .0))
             (subst (λ k. Safe (λ k1 y1. After-end q N k y1) (parts-of u m q (flat y) (kill z r))) (killed-under z r ∙ un)
-            (h .parts-ok N y U2 (kill z r) w (not-gone (q .datas) false (dat w) y refl (w3 .fine .0 .3))
-            (kill-top (q .datas) (root-entry r (dat w)) N y U2 z r (flat y) refl (w3 .fine .0 .0) w3)))
+            (h .parts-ok N y U2 (kill z r) w (not-gone (q .datas) false (dat w) y refl (w3 .entries .0 .3))
+            (kill-top (q .datas) (root-entry r (dat w)) N y U2 z r (flat y) refl (w3 .entries .0 .0) w3)))

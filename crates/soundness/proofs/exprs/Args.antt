@@ -41,11 +41,11 @@ evals-suc q m u o h C ln held g d A H F T s nil-e us [] vs r e fl sc w =
       K = [];
       F = F;
       T = T;
-      flown = subst (λ z. Arguments A z vs) (sym (append-nil us)) fl;
+      arguments = subst (λ z. Arguments A z vs) (sym (append-nil us)) fl;
       covered = λ l i. absurd i;
       names = subst
           (λ z. Scope (length C) ln (z .env) d F) (some-is e) (sc .names);
-      world = w;
+      invariant = w;
       under = refl;
     })
 evals-suc q m u o h C ln held g d A H F T s nil-e us (t ∷ ts) vs r e fl sc w = absurd (no-some e)
@@ -60,22 +60,22 @@ evals-suc q m u o h C ln held g d A H F T s (cons-e x es) us (t ∷ ts) vs r e f
     let held-on = cover-same (length C) ln g (r1 .env) d F (a .F) (sc .names) (a .names) held (all-loans-of (A ++ H)) (sc .above) in
     safe-weaken P
     (h .evals-ok C ln (r1 .loans ++ held) (r1 .env) d (tp ∷ A) H (a .F) (a .T) z es (us ++ (t ∷ [])) ts (append vs v) r2 (i .is-others)
-    (snoc-arg tp t v fl (subst (λ k. Value-entry v k tp) (i .first-type) (a .flight)))
+    (snoc-arg tp t v fl (subst (λ k. Value-entry v k tp) (i .first-type) (a .value-entry)))
     (record {
       names = a .names;
       above = cover-both (length C) ln (r1 .env) (r1 .loans) held (loans-of (tp .kind)) (all-loans-of (A ++ H)) (a .covered) held-on;
       under = sc .under;
     })
-    (a .world))
+    (a .invariant))
     (λ ws z2 b. record {
       K = b .K ++ (tp ∷ []);
       F = b .F;
       T = b .T;
-      flown = subst (λ k. Arguments k (us ++ (t ∷ ts)) ws) (sym (append-assoc (b .K) (tp ∷ []) A))
-          (subst (λ k. Arguments (b .K ++ (tp ∷ A)) k ws) (append-assoc us (t ∷ []) ts) (b .flown));
+      arguments = subst (λ k. Arguments k (us ++ (t ∷ ts)) ws) (sym (append-assoc (b .K) (tp ∷ []) A))
+          (subst (λ k. Arguments (b .K ++ (tp ∷ A)) k ws) (append-assoc us (t ∷ []) ts) (b .arguments));
       covered = subst (λ k. Loans-cover (length C) ln (k .env) (k .loans) (all-loans-of (b .K ++ (tp ∷ [])))) (some-is (i .behind))
           (all-covered q C ln d (a .F) (b .F) (b .K) tp r1 r2 (a .names) (b .names) (a .covered) (b .covered));
       names = subst (λ k. Scope (length C) ln (k .env) d (b .F)) (some-is (i .behind)) (b .names);
-      world = subst (λ k. Invariant (q .datas) k (b .T) z2) (sym (append-assoc (b .K) (tp ∷ []) ((A ++ H) ++ (b .F ++ C)))) (b .world);
+      invariant = subst (λ k. Invariant (q .datas) k (b .T) z2) (sym (append-assoc (b .K) (tp ∷ []) ((A ++ H) ++ (b .F ++ C)))) (b .invariant);
       under = b .under ∙ a .under;
     })))

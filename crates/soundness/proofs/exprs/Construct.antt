@@ -40,15 +40,15 @@ ctor-step q m u o h C ln held g d H F T s k es r e sc w =
     let r-is : record { ty = dat (hm .data1 .name); loans = []; env = i .fields .env } ≡ r = some-is (i .behind) in
     safe-then (After-eval q C ln d H r (s .under)) (h .evals-ok C ln held g d [] H F T s es [] ts nil-v (i .fields) (i .is-args) no-args sc w)
     (λ vs t a. (let mk = make-con (q .datas) (H ++ (a .F ++ C)) (a .K) ts vs (a .T) t k hm (i .is-home) refl
-    (subst (λ z. Arguments z ts vs) (append-nil (a .K)) (a .flown)) (fields-owned q o k hm (i .is-home)) (a .world) in
+    (subst (λ z. Arguments z ts vs) (append-nil (a .K)) (a .arguments)) (fields-owned q o k hm (i .is-home)) (a .invariant) in
     safe-ok (record {
       top = owned-entry (con-t k (mk .0)) (dat (hm .data1 .name));
       F = a .F;
       T = con-t k (mk .0) ∷ mk .1;
-      flight = record { place = ap (λ z. in-flight (con-v k z)) (sym (mk .2)); flag = refl; type = (sym (ap (λ z. z .ty) r-is), refl) };
+      value-entry = record { place = ap (λ z. in-flight (con-v k z)) (sym (mk .2)); flag = refl; type = (sym (ap (λ z. z .ty) r-is), refl) };
       covered = λ l z. absurd z;
       names = subst (λ z. Scope (length C) ln (z .env) d (a .F)) r-is (a .names);
-      world = mk .3;
+      invariant = mk .3;
       under = a .under;
     })))
 
@@ -60,7 +60,7 @@ pub boxed-step : (q : Prog) (m : Limits) (u : ℕ) → Preserved q m u
 unfolding me.eval
 boxed-step q m u h C ln held g d H F T s x r e sc w =
     safe-then Q (h .eval-ok C ln held g d H F T s x r1 (i .is-expr) sc w)
-    (λ v t a. after v t a (owned-top (q .datas) (a .top) (H ++ (a .F ++ C)) (a .T) t v ty1 (i .is-owned) (a .flight) (a .world)))
+    (λ v t a. after v t a (owned-top (q .datas) (a .top) (H ++ (a .F ++ C)) (a .T) t v ty1 (i .is-owned) (a .value-entry) (a .invariant)))
   where
     Q : Value → State → Type 0
     Q = After-eval q C ln d H r (s .under)
@@ -85,12 +85,13 @@ boxed-step q m u h C ln held g d H F T s x r e sc w =
           top = owned-entry (box-t (length (t .roots)) k tr) (box ty1);
           F = a .F;
           T = box-t (length (t .roots)) k tr ∷ ot .rest;
-          flight = record { place = refl; flag = refl; type = (sym (ap (λ j. j .ty) r-is), i .is-owned) };
+          value-entry = record { place = refl; flag = refl; type = (sym (ap (λ j. j .ty) r-is), i .is-owned) };
           covered = λ l j. absurd j;
           names = subst (λ j. Scope (length C) ln (j .env) d (a .F)) r-is (a .names);
-          world =
-              make-box (q .datas) (a .top) (H ++ (a .F ++ C)) tr (ot .rest) t v ty1 k (a .flight .place) (words-is q tr ty1 (ot .typed)) (ot .stored)
-              (ot .typed) (subst (λ j. Invariant (q .datas) (a .top ∷ (H ++ (a .F ++ C))) j t) (ot .trees) (a .world));
+          invariant =
+              make-box (q .datas) (a .top) (H ++ (a .F ++ C)) tr (ot .rest) t v ty1 k (a .value-entry .place)
+              (words-is q tr ty1 (ot .typed)) (ot .stored)
+              (ot .typed) (subst (λ j. Invariant (q .datas) (a .top ∷ (H ++ (a .F ++ C))) j t) (ot .trees) (a .invariant));
           under = a .under;
         }))
         (λ _. safe-stop tt))
@@ -137,23 +138,23 @@ call-step q m u o h C ln held g d H F T s f es r e sc w =
     (λ vs t a. safe-need P _ _ _ (i .is-fn)
     (safe-weaken P
     (h .calls-ok (H ++ (a .F ++ C)) (a .K) (a .T) t fn vs (fns-ok q o f fn (i .is-fn))
-    (subst (λ z. Arguments z ts vs) (append-nil (a .K)) (a .flown))
-    (covered-low C ln (r1 .env) d H (a .F) (r1 .loans) (all-loans-of (a .K)) (a .names) (sc .under) (a .covered)) (a .world))
+    (subst (λ z. Arguments z ts vs) (append-nil (a .K)) (a .arguments))
+    (covered-low C ln (r1 .env) d H (a .F) (r1 .loans) (all-loans-of (a .K)) (a .names) (sc .under) (a .covered)) (a .invariant))
     (λ v t2 a2. record {
       top = a2 .top;
       F = a .F;
       T = a2 .T;
-      flight = subst (λ z. Value-entry v (z .ty) (a2 .top)) r-is (a2 .flight);
+      value-entry = subst (λ z. Value-entry v (z .ty) (a2 .top)) r-is (a2 .value-entry);
       covered = subst (λ z. Loans-cover (length C) ln (z .env) (z .loans) (loans-of (a2 .top .kind))) r-is
           (λ l j. elim (a .covered l (a2 .loans l j)) [
             | inl k ↦ inl k
             | inr k ↦ inr (
               k .0,
               k .1,
-              subst (In (loan (k .0) (l .alone))) (sym (holds-all (fn .ret) (a2 .top .kind) (r1 .loans) l (a2 .flight .type) j)) (k .2),
+              subst (In (loan (k .0) (l .alone))) (sym (holds-all (fn .ret) (a2 .top .kind) (r1 .loans) l (a2 .value-entry .type) j)) (k .2),
             )
           ]);
       names = subst (λ z. Scope (length C) ln (z .env) d (a .F)) r-is (a .names);
-      world = a2 .world;
+      invariant = a2 .invariant;
       under = a2 .under ∙ a .under;
     })))

@@ -59,14 +59,14 @@ op-step q m u h C ln held g d H F T s o a1 a2 r e sc w =
     let g1 = i .left .env in
     let P = After-eval q C ln d H r (s .under) in
     safe-then P (h .eval-ok C ln held g d H F T s a1 (i .left) (i .is-left) sc w)
-    (λ v t a. (let fl1 : Value-entry v int (a .top) = subst (λ k. Value-entry v k (a .top)) (i .left-int) (a .flight) in
-    let n1 = top-int (q .datas) (a .top) (H ++ (a .F ++ C)) (a .T) t v fl1 (a .world) in
-    let p1 = pop-int (q .datas) (a .top) (H ++ (a .F ++ C)) (a .T) t v fl1 (a .world) in
+    (λ v t a. (let fl1 : Value-entry v int (a .top) = subst (λ k. Value-entry v k (a .top)) (i .left-int) (a .value-entry) in
+    let n1 = top-int (q .datas) (a .top) (H ++ (a .F ++ C)) (a .T) t v fl1 (a .invariant) in
+    let p1 = pop-int (q .datas) (a .top) (H ++ (a .F ++ C)) (a .T) t v fl1 (a .invariant) in
     safe-then P
     (h .eval-ok C ln held g1 d H (a .F) (p1 .0) t a2 (i .right) (i .is-right) (frame-after C ln held g g1 d H F (a .F) sc (a .names)) (p1 .1))
-    (λ v2 t2 a3. (let fl2 : Value-entry v2 int (a3 .top) = subst (λ k. Value-entry v2 k (a3 .top)) (i .right-int) (a3 .flight) in
-    let n2 = top-int (q .datas) (a3 .top) (H ++ (a3 .F ++ C)) (a3 .T) t2 v2 fl2 (a3 .world) in
-    let p2 = pop-int (q .datas) (a3 .top) (H ++ (a3 .F ++ C)) (a3 .T) t2 v2 fl2 (a3 .world) in
+    (λ v2 t2 a3. (let fl2 : Value-entry v2 int (a3 .top) = subst (λ k. Value-entry v2 k (a3 .top)) (i .right-int) (a3 .value-entry) in
+    let n2 = top-int (q .datas) (a3 .top) (H ++ (a3 .F ++ C)) (a3 .T) t2 v2 fl2 (a3 .invariant) in
+    let p2 = pop-int (q .datas) (a3 .top) (H ++ (a3 .F ++ C)) (a3 .T) t2 v2 fl2 (a3 .invariant) in
     safe-need P _ _ _ (n1 .2)
     (safe-need P _ _ _ (n2 .2)
     (safe-ok (int-after q C ln (i .right .env) d H (a3 .F) (p2 .0) t2 (worked o (n1 .0) (n2 .0)) (s .under) r (i .behind) (a3 .names) (p2 .1)
@@ -78,7 +78,7 @@ pub load-step : (q : Prog) (m : Limits) (u : ℕ) (C : List Entry) (ln : List Le
     → Invariant (q .datas) (H ++ (F ++ C)) T s → Safe (After-eval q C ln d H r (s .under)) (eval (suc u) m q d (load x) s)
 unfolding me.eval
 load-step q m u C ln held g d H F T s x r e sc w =
-    safe-need Q _ _ _ (pl .named) (by-shape1 (pl .en .kind) (pl .type) (pl .at-sh) (pl .fine2))
+    safe-need Q _ _ _ (pl .named) (by-shape1 (pl .en .kind) (pl .type) (pl .at-kind) (pl .ok-at-root))
   where
     N : List Entry
     N = H ++ (F ++ C)

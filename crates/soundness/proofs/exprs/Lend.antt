@@ -31,7 +31,8 @@ pub lend-step : (q : Prog) (m : Limits) (u : ℕ) (C : List Entry) (ln : List Le
     (H F : List Entry) (T : List Tree) (s : State) (x : Lexeme) (r : ch.Typed) → ch.expr q held g (lend x) ≡ some r → Frame C ln held g d H F
     → Invariant (q .datas) (H ++ (F ++ C)) T s → Safe (After-eval q C ln d H r (s .under)) (eval (suc u) m q d (lend x) s)
 unfolding me.eval
-lend-step q m u C ln held g d H F T s x r e sc w = safe-need Q _ _ _ (pl .named) (safe-ok (by-kind (pl .en .kind) (pl .type) (pl .at-sh) (pl .fine2)))
+lend-step q m u C ln held g d H F T s x r e sc w =
+    safe-need Q _ _ _ (pl .named) (safe-ok (by-kind (pl .en .kind) (pl .type) (pl .at-kind) (pl .ok-at-root)))
   where
     N : List Entry
     N = H ++ (F ++ C)
@@ -57,7 +58,7 @@ lend-step q m u C ln held g d H F T s x r e sc w = safe-need Q _ _ _ (pl .named)
     a : Addr
     a = record { owner = lx; path = [] }
 
-    -- x is owned, so it is exclusive, and free: nothing stands in the way of a mut
+    -- x is owned, so it is exclusive, and free: a mut is in conflict with nothing
     by-kind : (k : Kind) → Kind-fits (v .ty) k → at-level (kinds N) lx ≡ some k
         → Entry-ok (q .datas) (s .roots) (rooted (pl .root) 0) (v .gone) k (pl .stands .tree) N T → Q (ref-v (here (pl .root))) s
     by-kind (own t) su at-x ok1 =
@@ -70,7 +71,7 @@ lend-step q m u C ln held g d H F T s x r e sc w = safe-need Q _ _ _ (pl .named)
           root = pl .root;
           whole = pl .stands .tree;
           part = pl .stands .tree;
-          standing = pl .place2;
+          standing = pl .at-root;
           holding = pl .stands .holds;
           leading = refl;
           typed = not-gone (q .datas) (v .gone) t (pl .stands .tree) (th .1) (ok1 .3);

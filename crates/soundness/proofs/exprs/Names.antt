@@ -94,12 +94,12 @@ module _ (q : Prog) (C : List Entry) (ln : List Level-loan) (held : List Loan) (
         top = removed-entry (sw .old) (v .gone) (v .ty);
         F = sw .F;
         T = sw .old ∷ sw .T;
-        flight = record { place = refl; flag = there1; type = (sym (ap (λ z. z .ty) r-is) ∙ sym t-is, ap owned t-is ∙ ow) };
+        value-entry = record { place = refl; flag = there1; type = (sym (ap (λ z. z .ty) r-is) ∙ sym t-is, ap owned t-is ∙ ow) };
         covered = λ l i. absurd i;
         names =
             subst (λ z. Scope (length C) ln (z .env) d (sw .F)) r-is
             (subst (λ z. Scope (length C) ln (set-gone true g z) d (sw .F)) (sym nm) (sw .names));
-        world = sw .world;
+        invariant = sw .invariant;
         under = sw .under;
       })))))
     where
@@ -122,7 +122,7 @@ module _ (q : Prog) (C : List Entry) (ln : List Level-loan) (held : List Loan) (
   as-value : (t : Ty) → v .ty ≡ t → value held g v t ≡ some r
       → Safe Q (me.need s (root-of d x) (λ k. me.need s (read-at s (here k)) (λ z. moves s k z)))
   as-value int t-is e =
-      safe-need Q _ _ _ (pl .named) (by-sh (pl .en .kind) (pl .type) (pl .fine2))
+      safe-need Q _ _ _ (pl .named) (by-sh (pl .en .kind) (pl .type) (pl .ok-at-root))
     where
       by-sh : (sh : Kind) → Kind-fits (v .ty) sh → Fi sh → Safe Q (me.need s (read-at s (here (pl .root))) (λ z. moves s (pl .root) z))
       by-sh (own t) su fi =
@@ -140,7 +140,7 @@ module _ (q : Prog) (C : List Entry) (ln : List Level-loan) (held : List Loan) (
         | inr k ↦ absurd (let z = k .1 in let z2 : _≡_ {A = ℕ} 0 1 = cc in omega arith)
       ]
   as-value (ref t) t-is e =
-      safe-need Q _ _ _ (pl .named) (by-sh (pl .en .kind) (pl .type) (pl .at-sh) (pl .loans) (pl .fine2))
+      safe-need Q _ _ _ (pl .named) (by-sh (pl .en .kind) (pl .type) (pl .at-kind) (pl .loans) (pl .ok-at-root))
     where
       by-sh : (sh : Kind) → Kind-fits (v .ty) sh → at-level (kinds N) (pl .level) ≡ some sh → Loans-cover (length C) ln g (v .loans) (loans-of sh)
           → Fi sh → Safe Q (me.need s (read-at s (here (pl .root))) (λ z. moves s (pl .root) z))
@@ -154,7 +154,7 @@ module _ (q : Prog) (C : List Entry) (ln : List Level-loan) (held : List Loan) (
           (push-copy ds N T s (pl .level) u a a ls u val at-sh (prefix-self a) (subst (Valid-ref ds N T u a) (pt .value) pt) w)))
       by-sh inert su at-sh cov fi = absurd su
   as-value (mut t) t-is e =
-      safe-need Q _ _ _ (pl .named) (by-sh (pl .en .kind) (pl .type) (pl .at-sh) (pl .fine2))
+      safe-need Q _ _ _ (pl .named) (by-sh (pl .en .kind) (pl .type) (pl .at-kind) (pl .ok-at-root))
     where
       ok1 : (is-free (held ++ all-loans g) (v .name) ≡ true) × (typed (mut t) (loan (v .name) true ∷ []) g ≡ some r)
       ok1 = only-is (is-free (held ++ all-loans g) (v .name)) (typed (mut t) (loan (v .name) true ∷ []) g) r e
@@ -183,7 +183,7 @@ module _ (q : Prog) (C : List Entry) (ln : List Level-loan) (held : List Loan) (
       → only-if (readable (held ++ all-loans g) (v .name)) (typed (ref t) (loan (v .name) false ∷ []) g) ≡ some r
       → Safe Q (me.need s (root-of d x) (λ k. me.need s (read-at s (here k)) (λ z. me.ok (ref-v (place-of k z)) s)))
   share-own t t-is nr nm2 e =
-      safe-need Q _ _ _ (pl .named) (by-sh (pl .en .kind) (pl .type) (pl .at-sh) (pl .fine2))
+      safe-need Q _ _ _ (pl .named) (by-sh (pl .en .kind) (pl .type) (pl .at-kind) (pl .ok-at-root))
     where
       ok1 : (readable (held ++ all-loans g) (v .name) ≡ true) × (typed (ref t) (loan (v .name) false ∷ []) g ≡ some r)
       ok1 = only-is (readable (held ++ all-loans g) (v .name)) (typed (ref t) (loan (v .name) false ∷ []) g) r e
@@ -209,7 +209,7 @@ module _ (q : Prog) (C : List Entry) (ln : List Level-loan) (held : List Loan) (
             root = pl .root;
             whole = pl .stands .tree;
             part = pl .stands .tree;
-            standing = pl .place2;
+            standing = pl .at-root;
             holding = pl .stands .holds;
             leading = refl;
             typed = not-gone ds (v .gone) u (pl .stands .tree) there1 (fi .3);
@@ -224,7 +224,7 @@ module _ (q : Prog) (C : List Entry) (ln : List Level-loan) (held : List Loan) (
   as-shared (box t) t-is e = share-own (box t) t-is refl (λ u k. (let z : _≡_ {A = ℕ} 0 1 = cc in omega arith)) e
   as-shared (ref t) t-is e = absurd (no-some e)
   as-shared (mut t) t-is e =
-      safe-need Q _ _ _ (pl .named) (by-sh (pl .en .kind) (pl .type) (pl .at-sh) (pl .fine2))
+      safe-need Q _ _ _ (pl .named) (by-sh (pl .en .kind) (pl .type) (pl .at-kind) (pl .ok-at-root))
     where
       ok1 : (readable (held ++ all-loans g) (v .name) ≡ true) × (typed (ref t) (loan (v .name) false ∷ []) g ≡ some r)
       ok1 = only-is (readable (held ++ all-loans g) (v .name)) (typed (ref t) (loan (v .name) false ∷ []) g) r e

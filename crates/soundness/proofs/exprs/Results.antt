@@ -28,10 +28,10 @@ int-after q C ln g d H F T s k j r e mt w un = record {
   top = owned-entry (int-t k) int;
   F = F;
   T = int-t k ∷ T;
-  flight = record { place = refl; flag = refl; type = (sym (ap (λ z. z .ty) r-is), refl) };
+  value-entry = record { place = refl; flag = refl; type = (sym (ap (λ z. z .ty) r-is), refl) };
   covered = λ l i. absurd i;
   names = subst (λ z. Scope (length C) ln (z .env) d F) r-is mt;
-  world = push-int (q .datas) (H ++ (F ++ C)) T s k w;
+  invariant = push-int (q .datas) (H ++ (F ++ C)) T s k w;
   under = un;
 }
   where
@@ -53,10 +53,10 @@ ref-after q C ln g d H F T s al t a L v ty ls r e su cov mt w = record {
   top = borrow-entry al t a L v;
   F = F;
   T = hole-t ∷ T;
-  flight = record { place = refl; flag = refl; type = subst (λ z. Kind-fits (z .ty) (borrow al t a L)) r-is su };
+  value-entry = record { place = refl; flag = refl; type = subst (λ z. Kind-fits (z .ty) (borrow al t a L)) r-is su };
   covered = subst (λ z. Loans-cover (length C) ln (z .env) (z .loans) L) r-is cov;
   names = subst (λ z. Scope (length C) ln (z .env) d F) r-is mt;
-  world = w;
+  invariant = w;
   under = refl;
 }
   where

@@ -27,13 +27,13 @@ pub record Name-at (ds : List Data) (C : List Entry) (ln : List Level-loan) (g :
   pub en : Entry
   pub root : ℕ
   pub levelled : name-level (length C) g x ≡ some level
-  pub at-sh : at-level (kinds (H ++ (F ++ C))) level ≡ some (en .kind)
+  pub at-kind : at-level (kinds (H ++ (F ++ C))) level ≡ some (en .kind)
   pub named : me.root-of d x ≡ some root
   pub type : Kind-fits (v .ty) (en .kind)
   pub loans : Loans-cover (length C) ln g (v .loans) (loans-of (en .kind))
   pub stands : Entry-at ds (s .roots) (H ++ (F ++ C)) T level en
-  pub fine2 : Entry-ok ds (s .roots) (rooted root 0) (v .gone) (en .kind) (stands .tree) (H ++ (F ++ C)) T
-  pub place2 : at-level (places (H ++ (F ++ C))) level ≡ some (rooted root 0)
+  pub ok-at-root : Entry-ok ds (s .roots) (rooted root 0) (v .gone) (en .kind) (stands .tree) (H ++ (F ++ C)) T
+  pub at-root : at-level (places (H ++ (F ++ C))) level ≡ some (rooted root 0)
 
 pub name-at : (ds : List Data) (C : List Entry) (ln : List Level-loan) (held : List Loan) (g : ch.Env) (d : me.Env) (H F : List Entry) (T : List Tree)
     (s : State) (x : Lexeme) (v : Var) → Frame C ln held g d H F → Invariant ds (H ++ (F ++ C)) T s → look g x ≡ some v
@@ -43,15 +43,15 @@ name-at ds C ln held g d H F T s x v sc w lk = record {
   en = en .en;
   root = en .root;
   levelled = en .levelled;
-  at-sh = level-kinds N (en .level) (en .en) at-N;
+  at-kind = level-kinds N (en .level) (en .en) at-N;
   named = en .named;
   type = en .type;
   loans = en .loans;
   stands = st;
-  fine2 =
+  ok-at-root =
       subst (λ k. Entry-ok ds (s .roots) k (v .gone) (en .en .kind) (st .tree) N T) (en .placed)
-      (subst (λ k. Entry-ok ds (s .roots) (en .en .at) k (en .en .kind) (st .tree) N T) (en .flag) (st .fine1));
-  place2 = st .place ∙ ap {B = Option Place} (λ z. some z) (en .placed);
+      (subst (λ k. Entry-ok ds (s .roots) (en .en .at) k (en .en .kind) (st .tree) N T) (en .flag) (st .ok-entry));
+  at-root = st .place ∙ ap {B = Option Place} (λ z. some z) (en .placed);
 }
   where
     N : List Entry
@@ -64,7 +64,7 @@ name-at ds C ln held g d H F T s x v sc w lk = record {
     at-N = level-under H (F ++ C) (en .level) (en .en) (en .stands)
 
     st : Entry-at ds (s .roots) N T (en .level) (en .en)
-    st = entry-at ds (s .roots) N T (en .level) (en .en) (w .fine) at-N
+    st = entry-at ds (s .roots) N T (en .level) (en .en) (w .entries) at-N
 
 -- free and readable, at the name's level
 pub free-at : (ds : List Data) (C : List Entry) (ln : List Level-loan) (held : List Loan) (g : ch.Env) (d : me.Env) (H F : List Entry) (T : List Tree)

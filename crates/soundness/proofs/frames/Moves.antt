@@ -165,7 +165,7 @@ pub record Swapped (ds : List Data) (C : List Entry) (ln : List Level-loan) (g :
   pub content : Content ds (v .gone) (v .ty) old
   pub stored : Stored (s2 .roots) old
   pub names : Scope (length C) ln (set-gone z g x) d F
-  pub world : Invariant ds (removed-entry old (v .gone) (v .ty) ∷ (H ++ (F ++ C))) (old ∷ T) s2
+  pub invariant : Invariant ds (removed-entry old (v .gone) (v .ty) ∷ (H ++ (F ++ C))) (old ∷ T) s2
   pub under : s2 .under ≡ s .under
 
 pub swap-name : (ds : List Data) (C : List Entry) (ln : List Level-loan) (held : List Loan) (g : ch.Env) (d : me.Env) (H F : List Entry) (x : Lexeme)
@@ -196,7 +196,7 @@ swap-name ds C ln held g d H F x v z e y T s sc lk ow fr e-at st-y co w = by-sha
     w1 = subst (λ k. Invariant ds (e ∷ k) (y ∷ T) s) same-N w
 
     cu : Cut N1 N2 T
-    cu = split-trees N1 ex N2 T (entries-length ds (s .roots) (N1 ++ (ex ∷ N2)) T (w1 .fine .1))
+    cu = split-trees N1 ex N2 T (entries-length ds (s .roots) (N1 ++ (ex ∷ N2)) T (w1 .entries .1))
 
     tr : Tree
     tr = cu .tree
@@ -205,7 +205,7 @@ swap-name ds C ln held g d H F x v z e y T s sc lk ow fr e-at st-y co w = by-sha
     w2 = subst (λ k. Invariant ds (e ∷ (N1 ++ (ex ∷ N2))) (y ∷ k) s) (cu .is) w1
 
     f-ex : Entry-ok ds (s .roots) (ex .at) (ex .gone) (ex .kind) tr N2 (cu .T2)
-    f-ex = entry-ok-mid ds (s .roots) N1 (cu .T1) ex N2 tr (cu .T2) (cu .len1) (w2 .fine .1)
+    f-ex = entry-ok-mid ds (s .roots) N1 (cu .T1) ex N2 tr (cu .T2) (cu .len1) (w2 .entries .1)
 
     free : Lent (kinds (N1 ++ (ex ∷ N2))) (length N2) false → ⊥
     free =
@@ -224,9 +224,9 @@ swap-name ds C ln held g d H F x v z e y T s sc lk ow fr e-at st-y co w = by-sha
       reads-old = rd;
       writes-new = wr .is;
       content = c-old;
-      stored = w3 .fine .0 .1;
+      stored = w3 .entries .0 .1;
       names = sp .with-flag z;
-      world =
+      invariant =
           subst (λ k. Invariant ds (removed-entry tr (v .gone) (v .ty) ∷ k) (tr ∷ (cu .T1 ++ (y ∷ cu .T2))) (wr .s2))
           (sym (cut-frame H (sp .F1) (with-gone ex z) (sp .F2) C)) w3;
       under = wr .under;
@@ -273,7 +273,7 @@ move-name ds C ln held g d H F x v T s sc lk ow fr w =
     (inr (refl, refl))
     (record {
       borrows = push-own (kinds (H ++ (F ++ C))) (w .borrows) (v .ty);
-      fine = ((refl, tt, ow, inr (refl, refl)), w .fine);
+      entries = ((refl, tt, ow, inr (refl, refl)), w .entries);
       sums = λ f. (let a = w .sums f in omega arith);
       counted = w .counted;
     })

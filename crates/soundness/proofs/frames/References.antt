@@ -29,7 +29,7 @@ there-typed ds C ln held g d H F T s x v fr w th ow =
     let n = name-at ds C ln held g d H F T s x v fr w (k .0) in
     let own-v : n .en .kind ≡ own (v .ty) = owned-kind (v .ty) (n .en .kind) ow (n .type) in
     let ok : Entry-ok ds (s .roots) (rooted (n .root) 0) (v .gone) (own (v .ty)) (n .stands .tree) (H ++ (F ++ C)) T
-    = subst (λ z. Entry-ok ds (s .roots) (rooted (n .root) 0) (v .gone) z (n .stands .tree) (H ++ (F ++ C)) T) own-v (n .fine2) in (
+    = subst (λ z. Entry-ok ds (s .roots) (rooted (n .root) 0) (v .gone) z (n .stands .tree) (H ++ (F ++ C)) T) own-v (n .ok-at-root) in (
       n .root,
       n .stands .tree,
       n .named,
@@ -44,7 +44,7 @@ none-into-free ds C ln held g d H F T s x v lx fr w lk ow free lv j al t a ls at
     let level-is : n .level ≡ lx = some-is (sym (n .levelled) ∙ lv) in
     let own-v : n .en .kind ≡ own (v .ty) = owned-kind (v .ty) (n .en .kind) ow (n .type) in
     let at-x : at-level (kinds (H ++ (F ++ C))) lx ≡ some (own (v .ty))
-    = subst (λ z. at-level (kinds (H ++ (F ++ C))) z ≡ some (own (v .ty))) level-is (n .at-sh ∙ ap {B = Option Kind} (λ z. some z) own-v) in
+    = subst (λ z. at-level (kinds (H ++ (F ++ C))) z ≡ some (own (v .ty))) level-is (n .at-kind ∙ ap {B = Option Kind} (λ z. some z) own-v) in
     none-into (kinds (H ++ (F ++ C))) (w .borrows) lx (v .ty) at-x (free-at ds C ln held g d H F T s x lx fr w lv free) j al t a ls at-j into
 
 pub none-below-free : None-below-free
@@ -74,8 +74,8 @@ reference-valid ds C ln held g d H F T s x v t fr w lk ty =
     let n = name-at ds C ln held g d H F T s x v fr w lk in
     let b = borrow-kind t (v .ty) (n .en .kind) ty (n .type) in
     let ok : Entry-ok ds (s .roots) (rooted (n .root) 0) (v .gone) (borrow (b .0) t (b .1) (b .2)) (n .stands .tree) N T
-    = subst (λ z. Entry-ok ds (s .roots) (rooted (n .root) 0) (v .gone) z (n .stands .tree) N T) (b .3) (n .fine2) in
-    let at-x : at-level (kinds N) (n .level) ≡ some (borrow (b .0) t (b .1) (b .2)) = n .at-sh ∙ ap {B = Option Kind} (λ z. some z) (b .3) in
+    = subst (λ z. Entry-ok ds (s .roots) (rooted (n .root) 0) (v .gone) z (n .stands .tree) N T) (b .3) (n .ok-at-root) in
+    let at-x : at-level (kinds N) (n .level) ≡ some (borrow (b .0) t (b .1) (b .2)) = n .at-kind ∙ ap {B = Option Kind} (λ z. some z) (b .3) in
     let ow = owner-of (kinds N) (w .borrows .anchored) (n .level) (borrow (b .0) t (b .1) (b .2)) (b .1) at-x refl in
     let pt = ok .1 .2 in
     let rd = valid-ref-read ds N T s t (ow .0) (b .1) (ok .1 .0) w (ow .1) pt in (

@@ -216,7 +216,7 @@ pub give-below : (ds : List Data) (base : ℕ) (ln : List Level-loan) (g : ch.En
     → Invariant ds (retired F ++ (top2 ∷ C)) (TF ++ (x ∷ TC)) s
 give-below ds base ln g d top top2 F C x TF TC s mt le at-is sn f1 w = record {
   borrows = retired-borrows F (top2 ∷ C) sn;
-  fine = retired-entries ds (s .roots) base ln g d F C TF TC top2 x mt le f1 (w .fine .1);
+  entries = retired-entries ds (s .roots) base ln g d F C TF TC top2 x mt le f1 (w .entries .1);
   sums =
       λ f. (let a = w .sums f in let a1 = retired-sum f F C TF TC top2 x le in let a2 : place-sum f (top2 .at) ≡ place-sum f (top .at) = ap
       (place-sum f) at-is in omega arith);

@@ -239,7 +239,7 @@ not-late (well-stop h) s e = h (cc)
 
 -- of any program, accepted or not
 pub fuel-for-any : Fuel-for-any
-fuel-for-any m q ins = let x = run-halts m q ins in (x .with-fuel, λ w s l e. not-late (x .fine) s (sym (x .settled w l) ∙ e))
+fuel-for-any m q ins = let x = run-halts m q ins in (x .with-fuel, λ w s l e. not-late (x .well) s (sym (x .settled w l) ∙ e))
 
 pub enough-fuel : Enough-fuel
 enough-fuel m q ins accepted = fuel-for-any m q ins

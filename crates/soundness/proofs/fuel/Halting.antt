@@ -17,16 +17,16 @@ pub record Halts {A : Type 0} (R : State → Type 0) (f : ℕ → Res A) : Type 
   pub gives : Res A
   pub with-fuel : ℕ
   pub settled : (w : ℕ) → with-fuel ≤ w → f w ≡ gives
-  pub fine : Settled-well R gives
+  pub well : Settled-well R gives
 
 pub at-once : {A : Type 0} {R : State → Type 0} {r : Res A} → Settled-well R r → Halts R (λ u. r)
-at-once {r = r} h = record { gives = r; with-fuel = 0; settled = λ w l. refl; fine = h }
+at-once {r = r} h = record { gives = r; with-fuel = 0; settled = λ w l. refl; well = h }
 
 pub ok-halts : {A : Type 0} {R : State → Type 0} {a : A} {t : State} → R t → Halts R (λ u. ok a t)
 ok-halts h = at-once (well-ok h)
 
 pub step : {A : Type 0} {R : State → Type 0} (f : ℕ → Res A) → Halts R (λ u. f (suc u)) → Halts R f
-step f h = record { gives = h .gives; with-fuel = suc (h .with-fuel); settled = go; fine = h .fine }
+step f h = record { gives = h .gives; with-fuel = suc (h .with-fuel); settled = go; well = h .well }
   where
     go : (w : ℕ) → suc (h .with-fuel) ≤ w → f w ≡ h .gives
     go zero l = absurd (omega arith)
@@ -37,19 +37,19 @@ weaken-fine k (well-ok h) = well-ok (k _ h)
 weaken-fine k (well-stop h) = well-stop h
 
 pub weaken : {A : Type 0} {R R′ : State → Type 0} {f : ℕ → Res A} → ((t : State) → R t → R′ t) → Halts R f → Halts R′ f
-weaken k h = record { gives = h .gives; with-fuel = h .with-fuel; settled = h .settled; fine = weaken-fine k (h .fine) }
+weaken k h = record { gives = h .gives; with-fuel = h .with-fuel; settled = h .settled; well = weaken-fine k (h .well) }
 
 then-go : {A C : Type 0} {R R′ : State → Type 0} (f : ℕ → Res A) (k : ℕ → A → State → Res C) (r : Res A) (j : ℕ) → ((w : ℕ) → j ≤ w → f w ≡ r)
     → Settled-well R r → ((a : A) (t : State) → R t → Halts R′ (λ u. k u a t)) → Halts R′ (λ u. then (f u) (k u))
 unfolding then
 then-go f k (ok a t) j e (well-ok h) g =
     let x = g a t h in
-    record { gives = x .gives; with-fuel = j + x .with-fuel; settled = λ w l. rw (e w (omega arith)) (x .settled w (omega arith)); fine = x .fine }
-then-go f k (stop i t) j e (well-stop h) g = record { gives = stop i t; with-fuel = j; settled = λ w l. rw (e w l) refl; fine = well-stop h }
+    record { gives = x .gives; with-fuel = j + x .with-fuel; settled = λ w l. rw (e w (omega arith)) (x .settled w (omega arith)); well = x .well }
+then-go f k (stop i t) j e (well-stop h) g = record { gives = stop i t; with-fuel = j; settled = λ w l. rw (e w l) refl; well = well-stop h }
 
 pub then-halts : {A C : Type 0} {R R′ : State → Type 0} {f : ℕ → Res A} {k : ℕ → A → State → Res C} → Halts R f
     → ((a : A) (t : State) → R t → Halts R′ (λ u. k u a t)) → Halts R′ (λ u. then (f u) (k u))
-then-halts {f = f} {k = k} h g = then-go f k (h .gives) (h .with-fuel) (h .settled) (h .fine) g
+then-halts {f = f} {k = k} h g = then-go f k (h .gives) (h .with-fuel) (h .settled) (h .well) g
 
 pub wrong-not : wrong ≡ out-of-fuel → ⊥
 wrong-not e = grind arith

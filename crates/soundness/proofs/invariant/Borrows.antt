@@ -58,7 +58,7 @@ pub push-borrow : (ds : List Data) (N : List Entry) (T : List Tree) (s : State) 
     → Invariant ds (borrow-entry al t a ls v ∷ N) (hole-t ∷ T) s
 push-borrow ds N T s al t a ls v w ap1 hm pt = record {
   borrows = record { exclusivity = ap1; anchored = (hm, w .borrows .anchored) };
-  fine = ((refl, (v, refl, pt)), w .fine);
+  entries = ((refl, (v, refl, pt)), w .entries);
   sums = λ f. (let k = w .sums f in omega arith);
   counted = w .counted;
 }
@@ -113,7 +113,7 @@ valid-ref-read ds N T s t u a v w ow pt = (
     e = entry-back N (a .owner) (own u) ow
 
     st : Entry-at ds (s .roots) N T (a .owner) (e .0)
-    st = entry-at ds (s .roots) N T (a .owner) (e .0) (w .fine) (e .1)
+    st = entry-at ds (s .roots) N T (a .owner) (e .0) (w .entries) (e .1)
 
     place-is : e .0 .at ≡ rooted (pt .root) 0
     place-is = some-is (sym (st .place) ∙ pt .standing)
@@ -125,7 +125,7 @@ valid-ref-read ds N T s t u a v w ow pt = (
     f2 =
         subst (λ k. Entry-ok ds (s .roots) k (e .0 .gone) (own u) (pt .whole) N T) place-is
         (subst (λ k. Entry-ok ds (s .roots) (e .0 .at) (e .0 .gone) k (pt .whole) N T) (e .2)
-        (subst (λ k. Entry-ok ds (s .roots) (e .0 .at) (e .0 .gone) (e .0 .kind) k N T) tree-is (st .fine1)))
+        (subst (λ k. Entry-ok ds (s .roots) (e .0 .at) (e .0 .gone) (e .0 .kind) k N T) tree-is (st .ok-entry)))
 
     rd : read-at s (here (pt .root)) ≡ some (flat (pt .whole))
     rd = reads s (pt .root) (flat (pt .whole)) 0 (f2 .0)

@@ -61,13 +61,13 @@ pub record Gathered (ds : List Data) (rs : List Root) (N A : List Entry) (ts : L
   pub values : vs ≡ flats parts
   pub typeds : Typed-all ds parts ts
   pub storeds : Stored-all rs parts
-  pub fine : Entries-ok ds rs N rest
+  pub entries : Entries-ok ds rs N rest
   pub sums : (f : ℕ → ℕ → ℕ) → stack-sum f (A ++ N) T ≡ trees-sum f parts + stack-sum f N rest
 
 pub gather : (ds : List Data) (rs : List Root) (N A : List Entry) (ts : List Ty) (vs : Values) (T : List Tree) → Arguments A ts vs
     → each-of owned ts ≡ true → Entries-ok ds rs (A ++ N) T → Gathered ds rs N A ts vs T
 gather ds rs N [] [] nil-v T no-args ow fi =
-    record { parts = nil-t; rest = T; values = refl; typeds = tt; storeds = tt; fine = fi; sums = λ f. (omega arith) }
+    record { parts = nil-t; rest = T; values = refl; typeds = tt; storeds = tt; entries = fi; sums = λ f. (omega arith) }
 gather ds rs N A ts vs [] (snoc-arg e t v fl fg) ow fi = absurd fi
 gather ds rs N A ts vs (x ∷ T) (snoc-arg {A = A1} {ts = ts1} {vs = vs1} e t v fl fg) ow fi =
     let o = each-front ts1 t ow in
@@ -79,7 +79,7 @@ gather ds rs N A ts vs (x ∷ T) (snoc-arg {A = A1} {ts = ts1} {vs = vs1} e t v 
       values = ap (λ z. append z v) (h .values) ∙ ap (append (flats (h .parts))) (k .0) ∙ flats-snoc (h .parts) x;
       typeds = typed-all-snoc ds (h .parts) ts1 x t (h .typeds) (k .2);
       storeds = stored-all-snoc rs (h .parts) x (h .storeds) (k .1);
-      fine = h .fine;
+      entries = h .entries;
       sums =
           λ f. (let a = h .sums f in let a1 = sum-snoc f (h .parts) x in let a2 : place-sum f (e .at) ≡ 0 = ap (place-sum f)
           (fg .place) in omega arith);
@@ -90,13 +90,13 @@ pub make-con : (ds : List Data) (N A : List Entry) (ts : List Ty) (vs : Values) 
     → home-of ds k ≡ some h → ts ≡ h .ctor1 .fields → Arguments A ts vs → each-of owned ts ≡ true → Invariant ds (A ++ N) T s
     → (xs : Trees) × (U : List Tree) × (vs ≡ flats xs) × Invariant ds (owned-entry (con-t k xs) (dat (h .data1 .name)) ∷ N) (con-t k xs ∷ U) s
 make-con ds N A ts vs T s k h hm t-is fl ow w =
-    let y = gather ds (s .roots) N A ts vs T fl ow (w .fine) in (
+    let y = gather ds (s .roots) N A ts vs T fl ow (w .entries) in (
       y .parts,
       y .rest,
       y .values,
       record {
         borrows = push-own (kinds N) (borrows-under A N (w .borrows)) (dat (h .data1 .name));
-        fine = ((refl, y .storeds, refl, inl (h, hm, refl, subst (Typed-all ds (y .parts)) t-is (y .typeds))), y .fine);
+        entries = ((refl, y .storeds, refl, inl (h, hm, refl, subst (Typed-all ds (y .parts)) t-is (y .typeds))), y .entries);
         sums = λ f. (let a = w .sums f in let a1 = y .sums f in omega arith);
         counted = w .counted;
       },
@@ -181,9 +181,9 @@ pub make-box : (ds : List Data) (e : Entry) (N : List Entry) (x : Tree) (T : Lis
     (with-classes (adds-root s (flat x) k) (count-in (s .classes) k))
 make-box ds e N x T s v t k e-at k-is st ty w = record {
   borrows = push-own (kinds N) (pop-borrows (e .kind) (kinds N) (w .borrows)) (box t);
-  fine = (
+  entries = (
     (refl, (at-last (s .roots) nu, stored-else (s .roots) rs2 r x el (omega (arith, fresh)) st), typed-owned ds x t ty, inl (k-is, ty)),
-    entries-ok-else ds (s .roots) rs2 r N T el (omega (arith, fresh)) (w .fine .1),
+    entries-ok-else ds (s .roots) rs2 r N T el (omega (arith, fresh)) (w .entries .1),
   );
   sums =
       λ f. (let a = w .sums f in let a2 : place-sum f (e .at) ≡ 0 = ap (place-sum f) e-at in let k1 = sum-push f 0 (s .roots) (flat x) k in let k2 : f

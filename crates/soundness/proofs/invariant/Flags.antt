@@ -98,7 +98,7 @@ weak-sum f (e ∷ N) (e2 ∷ N2) (x ∷ T) h =
 pub weak-invariant : (ds : List Data) (N N2 : List Entry) (T : List Tree) (s : State) → More-gone N N2 → Invariant ds N T s → Invariant ds N2 T s
 weak-invariant ds N N2 T s h w = record {
   borrows = subst Well-borrowed (sym (more-kinds N N2 h)) (w .borrows);
-  fine = weak-entries ds (s .roots) N N2 T h (w .fine);
+  entries = weak-entries ds (s .roots) N N2 T h (w .entries);
   sums = λ f. weak-sum f N N2 T h ∙ w .sums f;
   counted = w .counted;
 }

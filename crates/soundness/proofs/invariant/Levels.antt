@@ -94,7 +94,7 @@ pub record Entry-at (ds : List Data) (rs : List Root) (N : List Entry) (T : List
   pub tree : Tree
   pub holds : at-level T i ≡ some tree
   pub place : at-level (places N) i ≡ some (e .at)
-  pub fine1 : Entry-ok ds rs (e .at) (e .gone) (e .kind) tree N T
+  pub ok-entry : Entry-ok ds rs (e .at) (e .gone) (e .kind) tree N T
 
 pub entry-at : (ds : List Data) (rs : List Root) (N : List Entry) (T : List Tree) (i : ℕ) (e : Entry) → Entries-ok ds rs N T → at-level N i ≡ some e
     → Entry-at ds rs N T i e
@@ -112,7 +112,7 @@ entry-at ds rs (d ∷ N) (x ∷ T) i e f h = go (level-case d N i e h) (entry-at
           holds = level-at x T i (lt ∙ sym (k .0));
           place = level-at (d .at) (places N) i (places-length N ∙ sym (k .0))
               ∙ ap {B = Option Place} (λ z. some (z .at)) (k .1);
-          fine1 = subst (λ z. Entry-ok ds rs (z .at) (z .gone) (z .kind) x (d ∷ N) (x ∷ T)) (k .1)
+          ok-entry = subst (λ z. Entry-ok ds rs (z .at) (z .gone) (z .kind) x (d ∷ N) (x ∷ T)) (k .1)
               (entry-ok-push ds rs (d .at) (d .gone) (d .kind) x d N x T (f .0));
         }
     go (inr k) r =
@@ -122,8 +122,8 @@ entry-at ds rs (d ∷ N) (x ∷ T) i e f h = go (level-case d N i e h) (entry-at
           holds = level-push x T i (level-below T i (y .tree) (y .holds)) ∙ y .holds;
           place = level-push (d .at) (places N) i
               (level-below (places N) i (e .at) (y .place)) ∙ y .place;
-          fine1 = entry-ok-push ds rs (e .at) (e .gone) (e .kind)
-              (y .tree) d N x T (y .fine1);
+          ok-entry = entry-ok-push ds rs (e .at) (e .gone) (e .kind)
+              (y .tree) d N x T (y .ok-entry);
         }
 
 pub level-under : {A : Type 0} (H X : List A) (i : ℕ) (e : A) → at-level X i ≡ some e → at-level (H ++ X) i ≡ some e

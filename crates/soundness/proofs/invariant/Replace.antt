@@ -322,7 +322,7 @@ replace-at ds e y N1 ex N2 T1 tr T2 s r tx q old gone2 gone3 tv e-at st-y ex-at 
   borrows =
       push-own (kinds (N1 ++ (with-gone ex gone2 ∷ N2)))
       (subst Well-borrowed (sym (kinds-mid N1 ex gone2 N2)) (pop-borrows (e .kind) (kinds (N1 ++ (ex ∷ N2))) (w .borrows))) tv;
-  fine = (
+  entries = (
     (
       refl,
       stored-other rs rs2 d (flat y) old (wr .written) (old-apart (here r) q tr old sb once out) (subtree-stored rs q tr old sb (f-ex .1)),
@@ -330,7 +330,7 @@ replace-at ds e y N1 ex N2 T1 tr T2 s r tx q old gone2 gone3 tv e-at st-y ex-at 
       c3,
     ),
     entries-ok-replace ds r q tr y ex ex-at gone2 N2 T2 len2 rs rs2 (d .root) (λ j ne x h. wr .written .others j ne ∙ h) N1 T1 len1
-        (omega (arith, zeros)) (omega (arith, zeros)) kept target (w .fine .1),
+        (omega (arith, zeros)) (omega (arith, zeros)) kept target (w .entries .1),
   );
   sums =
       λ f. (let a = w .sums f in let a1 : place-sum f (e .at) ≡ 0 = ap (place-sum f) e-at in let a2 = sum-mid f N1 T1 ex N2 tr T2 len1 in
@@ -375,7 +375,7 @@ replace-at ds e y N1 ex N2 T1 tr T2 s r tx q old gone2 gone3 tv e-at st-y ex-at 
     f-ex : Entry-ok ds rs (rooted r 0) (ex .gone) (own tx) tr N2 T2
     f-ex =
         subst (λ z. Entry-ok ds rs (rooted r 0) (ex .gone) z tr N2 T2) ex-sh
-        (subst (λ z. Entry-ok ds rs z (ex .gone) (ex .kind) tr N2 T2) ex-at (entry-ok-mid ds rs N1 T1 ex N2 tr T2 len1 (w .fine .1)))
+        (subst (λ z. Entry-ok ds rs z (ex .gone) (ex .kind) tr N2 T2) ex-at (entry-ok-mid ds rs N1 T1 ex N2 tr T2 len1 (w .entries .1)))
 
     st-y2 : Stored rs2 y
     st-y2 = stored-other rs rs2 d (flat y) y (wr .written) (omega (arith, zeros)) st-y

@@ -100,9 +100,10 @@ pub root-mid : (ds : List Data) (N1 : List Entry) (e : Entry) (v0 : Value) (N2 :
     → Invariant ds (N1 ++ (e ∷ N2)) T s → Invariant ds (N1 ++ (with-root e (length (s .roots)) ∷ N2)) T (adds-root s v0 0)
 root-mid ds N1 e v0 N2 T s e-at w = record {
   borrows = subst Well-borrowed (sym (kinds-root N1 e r N2)) (w .borrows);
-  fine = entries-ok-root ds (s .roots) rs2 r N1 e v0 N2 T (λ j ne x h. at-push (s .roots) nu j x h) (at-last (s .roots) nu) e-at fresh (w .fine);
+  entries =
+      entries-ok-root ds (s .roots) rs2 r N1 e v0 N2 T (λ j ne x h. at-push (s .roots) nu j x h) (at-last (s .roots) nu) e-at fresh (w .entries);
   sums =
-      λ f. (let a = w .sums f in let a1 = sum-root ds (s .roots) f N1 e v0 r N2 T e-at (w .fine) in let a2 = sum-push f 0 (s .roots) v0 0 in
+      λ f. (let a = w .sums f in let a1 = sum-root ds (s .roots) f N1 e v0 r N2 T e-at (w .entries) in let a2 = sum-push f 0 (s .roots) v0 0 in
       let a3 : f (r + 0) 0 ≡ f r 0 = ap (λ z. f z 0) (omega arith) in omega arith);
   counted = record {
     by-size =

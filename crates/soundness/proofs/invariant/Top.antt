@@ -149,7 +149,7 @@ pub invariant-same : (ds : List Data) (N : List Entry) (T : List Tree) (s t : St
     → Invariant ds N T s → Invariant ds N T t
 invariant-same ds N T s t e f w = record {
   borrows = w .borrows;
-  fine = subst (λ z. Entries-ok ds z N T) e (w .fine);
+  entries = subst (λ z. Entries-ok ds z N T) e (w .entries);
   sums = λ g. w .sums g ∙ ap (live-sum g 0) e;
   counted = record {
     by-size = λ k. ap (λ z. in-use-of z (suc k)) (sym f) ∙ w .counted .by-size k ∙ ap (live-sum (of-size (suc k)) 0) e;
@@ -195,11 +195,11 @@ pub kill-top : (ds : List Data) (e : Entry) (N : List Entry) (x : Tree) (T : Lis
 kill-top ds e N x T s r v at-is r-is w =
     subst (Invariant ds (unrooted e v ∷ N) (x ∷ T)) (sym (kill-roots s r (record { live = true; val = v; words = 0 }) r-is)) (record {
       borrows = w .borrows;
-      fine = (
+      entries = (
         killed-entry ds (s .roots) r y (e .gone) (e .kind) x N T v (omega (arith, ones)) r-is
-            (subst (λ z. Entry-ok ds (s .roots) z (e .gone) (e .kind) x N T) at-is (w .fine .0)),
+            (subst (λ z. Entry-ok ds (s .roots) z (e .gone) (e .kind) x N T) at-is (w .entries .0)),
         entries-ok-else ds (s .roots)
-            (set-at (s .roots) r y) r N T (rest-else (s .roots) r y) (omega (arith, ones)) (w .fine .1),
+            (set-at (s .roots) r y) r N T (rest-else (s .roots) r y) (omega (arith, ones)) (w .entries .1),
       );
       sums =
           λ f. (let a = w .sums f in let a2 : place-sum f (e .at) ≡ f r 0 = ap (place-sum f) at-is in let k = sum-kill f 0 (s .roots) r v 0 r-is in
@@ -236,7 +236,7 @@ pub root-top : (ds : List Data) (e : Entry) (N : List Entry) (x : Tree) (T : Lis
     → Invariant ds (e ∷ N) (x ∷ T) s → Invariant ds (with-root e (length (s .roots)) ∷ N) (x ∷ T) (adds-root s v 0)
 root-top ds e N x T s v at-is w = record {
   borrows = w .borrows;
-  fine = (top1 (e .kind) (subst (λ z. Entry-ok ds (s .roots) z (e .gone) (e .kind) x N T) at-is (w .fine .0)), fine-up N T (w .fine .1));
+  entries = (top1 (e .kind) (subst (λ z. Entry-ok ds (s .roots) z (e .gone) (e .kind) x N T) at-is (w .entries .0)), fine-up N T (w .entries .1));
   sums =
       λ f. (let a = w .sums f in let a2 : place-sum f (e .at) ≡ 0 = ap (place-sum f) at-is in let k = sum-push f 0 (s .roots) v 0 in let k2 : f
       (length (s .roots) + 0) 0 ≡ f (length (s .roots)) 0 = ap (λ z. f z 0) (omega arith) in omega arith);
@@ -283,7 +283,7 @@ pub pop-top : (ds : List Data) (e : Entry) (N : List Entry) (x : Tree) (T : List
     → ((f : ℕ → ℕ → ℕ) → tree-sum f x ≡ 0) → Invariant ds (e ∷ N) (x ∷ T) s → Invariant ds N T s
 pop-top ds e N x T s v at-is z w = record {
   borrows = pop-borrows (e .kind) (kinds N) (w .borrows);
-  fine = w .fine .1;
+  entries = w .entries .1;
   sums = λ f. (let a = w .sums f in let a2 : place-sum f (e .at) ≡ 0 = ap (place-sum f) at-is in let a3 = z f in omega arith);
   counted = w .counted;
 }
@@ -330,7 +330,7 @@ pub open-con : (ds : List Data) (e : Entry) (N : List Entry) (k : Lexeme) (xs : 
     → Invariant ds (owned-entries xs ts ++ N) (trees-of xs ++ T) s
 open-con ds e N k xs ts T s v at-is st ty w = record {
   borrows = parts-borrows ds xs ts N (pop-borrows (e .kind) (kinds N) (w .borrows));
-  fine = parts-entries ds (s .roots) xs ts N T ty st (w .fine .1);
+  entries = parts-entries ds (s .roots) xs ts N T ty st (w .entries .1);
   sums = λ f. (let a = w .sums f in let a2 : place-sum f (e .at) ≡ 0 = ap (place-sum f) at-is in let a3 = parts-sum ds f xs ts N T ty in omega arith);
   counted = w .counted;
 }
@@ -348,7 +348,7 @@ pub open-box : (ds : List Data) (e : Entry) (N : List Entry) (r w : ℕ) (x : Tr
     → Invariant ds (owned-entry x t ∷ (shell r w ∷ N)) (x ∷ (hole-t ∷ T)) s
 open-box ds e N r w x t T s v at-is le st ty wo = record {
   borrows = push-own (inert ∷ kinds N) (push-inert (kinds N) (pop-borrows (e .kind) (kinds N) (wo .borrows))) t;
-  fine = ((refl, st .1, typed-owned ds x t ty, inl ty), ((refl, (flat x, st .0, idle-box r w (flat x) le)), wo .fine .1));
+  entries = ((refl, st .1, typed-owned ds x t ty, inl ty), ((refl, (flat x, st .0, idle-box r w (flat x) le)), wo .entries .1));
   sums = λ f. (let a = wo .sums f in let a2 : place-sum f (e .at) ≡ 0 = ap (place-sum f) at-is in omega arith);
   counted = wo .counted;
 }
@@ -401,14 +401,14 @@ boxes-out (x ∷ xs) k h = go (eqb (x .words) k) h (boxes-out xs k)
 pub end-box-top : (ds : List Data) (N : List Entry) (r w : ℕ) (T : List Tree) (s : State) → 1 ≤ w → Invariant ds (shell r w ∷ N) T s
     → (U : List Tree) × Invariant ds N U (ends-box s r)
 end-box-top ds N r zero T s le wo = absurd (omega arith)
-end-box-top ds N r (suc w) [] s le wo = absurd (wo .fine)
+end-box-top ds N r (suc w) [] s le wo = absurd (wo .entries)
 end-box-top ds N r (suc w) (x ∷ T) s le wo = (
   T,
   subst (Invariant ds N T) (sym ended) (record {
     borrows = pop-borrows inert (kinds N) (wo .borrows);
-    fine = entries-ok-else ds (s .roots) (set-at (s .roots) r y) r N T (rest-else (s .roots) r y) none-else (wo .fine .1);
+    entries = entries-ok-else ds (s .roots) (set-at (s .roots) r y) r N T (rest-else (s .roots) r y) none-else (wo .entries .1);
     sums =
-        λ f. (let a = wo .sums f in let a1 : tree-sum f x ≡ 0 = ap (tree-sum f) (wo .fine .0 .0) in let k = sum-kill f 0 (s .roots) r v
+        λ f. (let a = wo .sums f in let a1 : tree-sum f x ≡ 0 = ap (tree-sum f) (wo .entries .0 .0) in let k = sum-kill f 0 (s .roots) r v
         (suc w) r-is in let k2 : f (r + 0) (suc w) ≡ f r (suc w) = ap (λ z. f z (suc w)) (omega arith) in omega arith);
     counted = record {
       by-size = λ k. sized k (eqb (suc w) (suc k)) refl;
@@ -420,10 +420,10 @@ end-box-top ds N r (suc w) (x ∷ T) s le wo = (
 )
   where
     v : Value
-    v = wo .fine .0 .1 .0
+    v = wo .entries .0 .1 .0
 
     r-is : at-place (s .roots) r ≡ some (record { live = true; val = v; words = suc w })
-    r-is = wo .fine .0 .1 .1
+    r-is = wo .entries .0 .1 .1
 
     y : Root
     y = record { live = false; val = hole; words = suc w }
@@ -472,7 +472,7 @@ pub retype-top : (ds : List Data) (e : Entry) (N : List Entry) (x : Tree) (T : L
     → Stored (s .roots) x → Typed ds x t → Invariant ds (e ∷ N) (x ∷ T) s → Invariant ds (owned-entry x t ∷ N) (x ∷ T) s
 retype-top ds e N x T s v t at-is st ty w = record {
   borrows = push-own (kinds N) (pop-borrows (e .kind) (kinds N) (w .borrows)) t;
-  fine = ((refl, st, typed-owned ds x t ty, inl ty), w .fine .1);
+  entries = ((refl, st, typed-owned ds x t ty, inl ty), w .entries .1);
   sums = λ f. (let a = w .sums f in let a2 : place-sum f (e .at) ≡ 0 = ap (place-sum f) at-is in omega arith);
   counted = w .counted;
 }
@@ -511,8 +511,8 @@ killed-under s r = go (at-place (s .roots) r)
 -- an int leaves the top
 pub pop-int : (ds : List Data) (e : Entry) (N : List Entry) (T : List Tree) (s : State) (v : Value) → Value-entry v int e → Invariant ds (e ∷ N) T s
     → (U : List Tree) × Invariant ds N U s
-pop-int ds e N [] s v fl w = absurd (w .fine)
-pop-int ds e N (x ∷ T) s v fl w = (T, pop-top ds e N x T s v (fl .place) (go (e .kind) (fl .type) (w .fine .0)) w)
+pop-int ds e N [] s v fl w = absurd (w .entries)
+pop-int ds e N (x ∷ T) s v fl w = (T, pop-top ds e N x T s v (fl .place) (go (e .kind) (fl .type) (w .entries .0)) w)
   where
     weightless : (x : Tree) → Typed ds x int → (f : ℕ → ℕ → ℕ) → tree-sum f x ≡ 0
     weightless (int-t k) ty f = refl

@@ -48,9 +48,9 @@ pub record Owned-top (ds : List Data) (T : List Tree) (s : State) (v : Value) (t
 
 pub owned-top : (ds : List Data) (e : Entry) (N : List Entry) (T : List Tree) (s : State) (v : Value) (t : Ty) → owned t ≡ true → Value-entry v t e
     → Invariant ds (e ∷ N) T s → Owned-top ds T s v t e
-owned-top ds e N [] s v t ow fl w = absurd (w .fine)
+owned-top ds e N [] s v t ow fl w = absurd (w .entries)
 owned-top ds e N (x ∷ T) s v t ow fl w =
-    let k = owned-value ds (s .roots) e x N T v t ow fl (w .fine .0) in
+    let k = owned-value ds (s .roots) e x N T v t ow fl (w .entries .0) in
     record { tree = x; rest = T; trees = refl; value = k .0; stored = k .1; typed = k .2; shape = owned-kind t (e .kind) ow (fl .type) }
 
 -- a number
@@ -70,7 +70,7 @@ pub push-int : (ds : List Data) (N : List Entry) (T : List Tree) (s : State) (k 
 push-int ds N T s k w =
     record {
       borrows = push-own (kinds N) (w .borrows) int;
-      fine = ((refl, tt, refl, inl tt), w .fine);
+      entries = ((refl, tt, refl, inl tt), w .entries);
       sums = λ f.
           (let a = w .sums f in omega arith);
       counted = w .counted;

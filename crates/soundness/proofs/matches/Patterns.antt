@@ -36,7 +36,7 @@ pub record Bound (ds : List Data) (C : List Entry) (ln : List Level-loan) (g bou
   pub named : names-in d t xs vs ≡ some (k ++ d)
   pub lens : length gk ≡ length k
   pub names : Scope (length C) ln bound (k ++ d) F
-  pub world : Invariant ds (F ++ C) T (roots-in t vs)
+  pub invariant : Invariant ds (F ++ C) T (roots-in t vs)
   pub under : roots-in t vs .under ≡ t .under
 
 len-snoc : {A : Type 0} (xs : List A) (x : A) → length (xs ++ (x ∷ [])) ≡ suc (length xs)
@@ -60,7 +60,7 @@ bound-more ds C ln g bound d x ty ls xs v vs t r =
       named = r .named ∙ ap {B = Option me.Env} (λ z. some z) d-is;
       lens = len-snoc (r .gk) v1 ∙ ap suc (r .lens) ∙ sym (len-snoc (r .k) m1);
       names = subst (λ z. Scope (length C) ln bound z (r .F)) d-is (r .names);
-      world = r .world;
+      invariant = r .invariant;
       under = r .under;
     }
 
@@ -76,7 +76,7 @@ bound-none ds C ln g bound d F T t e mt w =
       named = refl;
       lens = refl;
       names = subst (λ z. Scope (length C) ln z d F) e mt;
-      world = w;
+      invariant = w;
       under = refl;
     }
 

@@ -78,10 +78,10 @@ module _ (q : Prog) (o : ch.accepts q ≡ true) (C : List Entry) (ln : List Leve
 
   -- the name's entry, of a kind
   stands-as : (z : Kind) → pl .en .kind ≡ z → at-level (kinds (F ++ C)) (pl .level) ≡ some z
-  stands-as z e = pl .at-sh ∙ ap {B = Option Kind} (λ y. some y) e
+  stands-as z e = pl .at-kind ∙ ap {B = Option Kind} (λ y. some y) e
 
   fine-as : (z : Kind) → pl .en .kind ≡ z → Entry-ok (q .datas) (s .roots) (rooted (pl .root) 0) (v .gone) z (pl .stands .tree) (F ++ C) T
-  fine-as z e = subst (λ y. Entry-ok (q .datas) (s .roots) (rooted (pl .root) 0) (v .gone) y (pl .stands .tree) (F ++ C) T) e (pl .fine2)
+  fine-as z e = subst (λ y. Entry-ok (q .datas) (s .roots) (rooted (pl .root) 0) (v .gone) y (pl .stands .tree) (F ++ C) T) e (pl .ok-at-root)
 
   unobstructed-of : (al : Bool) → Seen-right g x al → (z : Kind) (az : Addr) → at-level (kinds (F ++ C)) (pl .level) ≡ some z
       → addr-of (pl .level) z ≡ some az → exclusive z ≡ true → (aw : Addr) → Prefix az aw → Unobstructed (kinds (F ++ C)) (pl .level) al aw
@@ -107,7 +107,8 @@ module _ (q : Prog) (o : ch.accepts q ≡ true) (C : List Entry) (ln : List Leve
 
     own-seen : (D : Lexeme) → pl .en .kind ≡ own (dat D) → Seen (q .datas) (F ++ C) T (pl .level) (own (dat D)) D l k vs
     own-seen D e =
-        seen-own (q .datas) (F ++ C) T s (pl .level) (pl .root) (v .gone) (pl .stands .tree) D d x l k vs (pl .named) (pl .place2) (pl .stands .holds)
+        seen-own (q .datas) (F ++ C) T s (pl .level) (pl .root) (v .gone) (pl .stands .tree) D d x l k vs (pl .named) (pl .at-root)
+        (pl .stands .holds)
         (is-there .1) (fine-as (own (dat D)) e) lk
 
     ref-seen : (D : Lexeme) (al : Bool) (a : Addr) (ls : List Level-loan) → pl .en .kind ≡ borrow al (dat D) a ls

@@ -45,7 +45,7 @@ by-alt-suc q m u o h C ln g g2 d F T s w x v mm as₁ l (shape k vs) th la cv al
     (safe-weaken P (h .block-ok C ln (bd .gk) (mm .env) (ac .behind) (bd .k) d (bd .F) (bd .T) t2 (fa .0 .does)
     (subst (λ y. ch.stmts q y (fa .0 .does) ≡ some (ac .behind)) (bd .static) (ac .runs)) (bd .lens)
     (record { names = subst (λ y. Scope (length C) ln y (bd .k ++ d) (bd .F)) (bd .static) (bd .names); above = λ y i. absurd i; under = sc .under })
-    (bd .world))
+    (bd .invariant))
     (λ d2 z a. subst (λ y. After-exec q C ln g2 d y d2 z) (bd .under ∙ lo .under)
     (after-weak q C ln (outer (mm .env) (ac .behind)) g2 d (t2 .under) d2 z (ac .weaker) (a .1))))))
   where
@@ -79,7 +79,7 @@ by-shape-suc q m u o h C ln g d F T s qs t w x v mm as₁ l (shape k vs) th la c
     (safe-need P _ _ _ (bd .named)
     (subst (λ y. Safe (After-give q C ln d t y) (bodies u m q (bd .k ++ d) d (ca .found .does) t2)) (bd .under ∙ lo .under)
     (h .bodies-ok C ln (ca .bound) (bd .k ++ d) (bd .k) d (bd .F) (bd .T) t2 qs t (ca .found .does) (ca .does) lent2 refl
-    (record { names = bd .names; above = λ y i. absurd i; under = sc .under }) (bd .world)))))
+    (record { names = bd .names; above = λ y i. absurd i; under = sc .under }) (bd .invariant)))))
   where
     P : Value → State → Type 0
     P = After-give q C ln d t (s .under)
@@ -182,7 +182,7 @@ scrutinee-seen q C ln g d F T s w x v mm th la sc wo = go (aims q g v mm (pl .en
     pl = name-at (q .datas) C ln [] g d [] F T s x v sc wo (it .0)
 
     fine-as : (z : Kind) → pl .en .kind ≡ z → Entry-ok (q .datas) (s .roots) (rooted (pl .root) 0) (v .gone) z (pl .stands .tree) (F ++ C) T
-    fine-as z e = subst (λ y. Entry-ok (q .datas) (s .roots) (rooted (pl .root) 0) (v .gone) y (pl .stands .tree) (F ++ C) T) e (pl .fine2)
+    fine-as z e = subst (λ y. Entry-ok (q .datas) (s .roots) (rooted (pl .root) 0) (v .gone) y (pl .stands .tree) (F ++ C) T) e (pl .ok-at-root)
 
     whole1 : (D : Lexeme) → Content (q .datas) (v .gone) (dat D) (pl .stands .tree) → Typed (q .datas) (pl .stands .tree) (dat D)
     whole1 D (inl y) = y
@@ -201,7 +201,7 @@ scrutinee-seen q C ln g d F T s w x v mm th la sc wo = go (aims q g v mm (pl .en
         let f = fine-as (borrow (y .0) (dat D) (y .1) (y .2)) e in
         let pt : Valid-ref (q .datas) (F ++ C) T (dat D) (y .1) (f .1 .0) = f .1 .2 in
         let hm = anchored-at (kinds (F ++ C)) (wo .borrows .anchored) (pl .level) (y .0) (dat D) (y .1) (y .2)
-        (pl .at-sh ∙ ap {B = Option Kind} (λ r. some r) e) in
+        (pl .at-kind ∙ ap {B = Option Kind} (λ r. some r) e) in
         con-seen (q .datas) d x s (pl .root) (f .1 .0) (pt .part) D (pt .typed) (pl .named) (reads s (pl .root) (f .1 .0) 0 (f .1 .1))
         (ap (λ r. read-at s (place-of (pl .root) r)) (pt .value) ∙ valid-ref-read (q .datas) (F ++ C) T s (dat D) (hm .2 .0) (y .1) (f .1 .0) wo
         (hm .2 .1) pt .0)

@@ -46,7 +46,7 @@ part-down ds y t ys ts M U s ty w = record {
   borrows =
       parts-borrows ds ys ts (owned-entry y t ∷ M)
       (push-own (kinds M) (borrows-under (owned-entries ys ts) M (pop-borrows (own t) (kinds (owned-entries ys ts ++ M)) (w .borrows))) t);
-  fine = parts-fine ds (s .roots) ys ts M (owned-entry y t ∷ M) U (y ∷ U) ty (λ f. (w .fine .0, f)) (w .fine .1);
+  entries = parts-fine ds (s .roots) ys ts M (owned-entry y t ∷ M) U (y ∷ U) ty (λ f. (w .entries .0, f)) (w .entries .1);
   sums =
       λ f. (let a = w .sums f in let a1 = parts-sum ds f ys ts M U ty in let a2 = parts-sum ds f ys ts (owned-entry y t ∷ M)
       (y ∷ U) ty in omega arith);
@@ -104,7 +104,7 @@ looked-take q o C ln g d F T s x v D mm l k vs sc lo ng ty-is fr dn ls-is env-is
         let k-is : k1 ≡ k = cc in
         let vs-is : flats ts ≡ vs = cc in
         let w1 : Invariant (q .datas) (removed-entry (con-t k1 ts) (v .gone) (v .ty) ∷ (sw .F ++ C)) (con-t k1 ts ∷ sw .T) (sw .s2) = subst
-        (λ z. Invariant (q .datas) (removed-entry z (v .gone) (v .ty) ∷ (sw .F ++ C)) (z ∷ sw .T) (sw .s2)) old-is (sw .world) in
+        (λ z. Invariant (q .datas) (removed-entry z (v .gone) (v .ty) ∷ (sw .F ++ C)) (z ∷ sw .T) (sw .s2)) old-is (sw .invariant) in
         let w2 = open-con (q .datas) (removed-entry (con-t k1 ts) (v .gone) (v .ty)) (sw .F ++ C) k1 ts (ty .0 .ctor1 .fields) (sw .T) (sw .s2)
         (con-v k1 (flats ts)) refl (subst (Stored (sw .s2 .roots)) old-is (sw .stored)) (ty .3) w1 in
         record {

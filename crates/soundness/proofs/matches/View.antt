@@ -26,7 +26,7 @@ use Rattle.soundness.proofs.statics.Accepted.{okay}
 use Rattle.soundness.proofs.statics.Alternatives.{home-is}
 use Rattle.soundness.proofs.matches.Patterns.{Bound, child-addr, Ready, refs-bound}
 
--- what's seen: at level lz, of shape z; the constructor k with the parts vs, of data D
+-- what's seen: at level lz, of kind z; the constructor k with the parts vs, of data D
 pub record Seen (ds : List Data) (N : List Entry) (T : List Tree) (lz : ℕ) (z : Kind) (D : Lexeme) (l : Loc) (k : Lexeme) (vs : Values) : Type 0 where
   pub az : Addr
   pub az-is : addr-of lz z ≡ some az

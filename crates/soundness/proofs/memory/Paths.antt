@@ -118,7 +118,7 @@ sum-replace f (i ∷ is) u t old e = go (if-some-is (child i t) (subtree is) old
         let e3 : tree-sum f (replace (i ∷ is) u t) ≡ tree-sum f (set-child i (replace is u k) t) = ap (tree-sum f) (replace-step i is u t k (x .1)) in
         omega arith
 
--- where a way leads: into the same root, or into a box of the tree
+-- where a path leads: into the same root, or into a box of the tree
 abbrev pub extend : Loc → List ℕ → Loc
 extend l is = record { root = l .root; path = l .path ++ is }
 
@@ -201,7 +201,7 @@ storeds-put rs rs2 d v (cons-t t ts) (suc i) k u w e h s su = (
       (omega arith) (s .1) su,
 )
 
--- where the way leads is in the same root or in a box of the tree
+-- where the path leads is in the same root or in a box of the tree
 loc-down-root : (l : Loc) (q : Path) (t u : Tree) → Outcome l q t u
     → (loc-down l q t .root ≡ l .root) ⊎ (1 ≤ tree-sum (mark (loc-down l q t .root)) t)
 loc-down-root l q t u (same-root is e f) = inl (ap (λ z. z .root) e)

@@ -49,7 +49,7 @@ block-suc q m u o hyp C ln gk gh g2 k h F T s x e le sc w =
         → Safe Post (me.then (ends u m q (newer i h) t) (λ j z. me.ok h z))
     behind i t a = subst (λ z. Safe Post (me.then (ends u m q z t) (λ j y. me.ok h y))) (sym new-is)
         (safe-then Post (hyp .ends-ok (pa .F1) (pa .F2 ++ C) (a .T) t (a .newer ++ k) (pa .named)
-        (subst (λ z. Invariant (q .datas) z (a .T) t) (ap (λ z. z ++ C) (pa .F-is) ∙ append-assoc (pa .F1) (pa .F2) C) (a .world)))
+        (subst (λ z. Invariant (q .datas) z (a .T) t) (ap (λ z. z ++ C) (pa .F-is) ∙ append-assoc (pa .F1) (pa .F2) C) (a .invariant)))
         (λ j z b. safe-ok (
           refl,
           record {
@@ -59,7 +59,7 @@ block-suc q m u o hyp C ln gk gh g2 k h F T s x e le sc w =
             T = b .T;
             names = subst (λ y. Scope (length C) ln y h (pa .F2))
                 (low ∙ sym (op .4)) (pa .names);
-            world = b .world;
+            invariant = b .invariant;
             under = b .under ∙ a .under;
           },
         )))
@@ -90,7 +90,7 @@ execs-suc q m u o h C ln g g2 d F T s nil-s e sc w =
       F = F;
       T = T;
       names = subst (λ z. Scope (length C) ln z d F) (some-is e) (sc .names);
-      world = w;
+      invariant = w;
       under = refl;
     })
 execs-suc q m u o h C ln g g2 d F T s (cons-s x ss) e sc w =
@@ -101,7 +101,7 @@ execs-suc q m u o h C ln g g2 d F T s (cons-s x ss) e sc w =
     (h .exec-ok C ln g (st .0) d F T s1 x (st .1) sc (invariant-same (q .datas) (F ++ C) T s s1 refl refl w)))
     (λ d2 t a. safe-weaken (After-exec q C ln g2 d (s .under))
     (h .execs-ok C ln (st .0) g2 d2 (a .F) (a .T) t ss (st .2)
-    (record { names = a .names; above = λ l i. absurd i; under = sc .under }) (a .world))
+    (record { names = a .names; above = λ l i. absurd i; under = sc .under }) (a .invariant))
     (λ d3 y b. record {
       newer = b .newer ++ a .newer;
       grown = b .grown ∙ ap (λ z. b .newer ++ z) (a .grown) ∙ sym
@@ -109,6 +109,6 @@ execs-suc q m u o h C ln g g2 d F T s (cons-s x ss) e sc w =
       F = b .F;
       T = b .T;
       names = b .names;
-      world = b .world;
+      invariant = b .invariant;
       under = b .under ∙ a .under;
     }))

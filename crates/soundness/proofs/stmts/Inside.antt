@@ -137,7 +137,7 @@ inside-step q m u C ln g g2 d F T s x y e sc w = by-type (v .ty) (pl .type) (i1 
               (scope-more (length C) ln g d F x tb ms (length (s .roots))
               (with-root (borrow-entry al tu (in-addr a) L (ref-v (here (ib .box1)))) (length (s .roots)))
               (i1 .is-fresh) refl refl su cov (sc .names));
-          world =
+          invariant =
               root-mid (q .datas) [] (borrow-entry al tu (in-addr a) L (ref-v (here (ib .box1)))) (ref-v (here (ib .box1))) N (hole-t ∷ T) s refl w2;
           under = refl;
         }))))))
@@ -184,8 +184,8 @@ inside-step q m u C ln g g2 d F T s x y e sc w = by-type (v .ty) (pl .type) (i1 
     by-type (ref t) su e1 =
         let z = if-some-is (boxed-in t) _ g2 e1 in
         let z2 = only-is _ (some (enter g x (ref (z .0)) (v .loans))) g2 (z .2) in
-        by-ref t (z .0) (pl .en .kind) (boxed-is t (z .0) (z .1)) su (pl .at-sh) (pl .loans) (pl .fine2) (z2 .1)
+        by-ref t (z .0) (pl .en .kind) (boxed-is t (z .0) (z .1)) su (pl .at-kind) (pl .loans) (pl .ok-at-root) (z2 .1)
     by-type (mut t) su e1 =
         let z = if-some-is (boxed-in t) _ g2 e1 in
         let z2 = only-is _ (some (enter g x (mut (z .0)) (loan (v .name) true ∷ []))) g2 (z .2) in
-        by-mut t (z .0) (pl .en .kind) (boxed-is t (z .0) (z .1)) su (pl .at-sh) (pl .fine2) (z2 .0) (z2 .1)
+        by-mut t (z .0) (pl .en .kind) (boxed-is t (z .0) (z .1)) su (pl .at-kind) (pl .ok-at-root) (z2 .0) (z2 .1)

@@ -38,7 +38,7 @@ open-shell : (ds : List Data) (e : Entry) (N : List Entry) (r w : ℕ) (x : Tree
     → Invariant ds (shell r w ∷ (owned-entry x t ∷ N)) (hole-t ∷ (x ∷ T)) s
 open-shell ds e N r w x t T s v at-is le st ty wo = record {
   borrows = push-inert (own t ∷ kinds N) (push-own (kinds N) (pop-borrows (e .kind) (kinds N) (wo .borrows)) t);
-  fine = ((refl, (flat x, st .0, idle w le)), ((refl, st .1, typed-owned ds x t ty, inl ty), wo .fine .1));
+  entries = ((refl, (flat x, st .0, idle w le)), ((refl, st .1, typed-owned ds x t ty, inl ty), wo .entries .1));
   sums = λ f. (let a = wo .sums f in let a2 : place-sum f (e .at) ≡ 0 = ap (place-sum f) at-is in omega arith);
   counted = wo .counted;
 }
@@ -175,7 +175,7 @@ open-step q m u C ln g g2 d F T s x y e sc w =
     st = subst (Stored (s2 .roots)) (bo .3) (sw .stored)
 
     w1 : Invariant (q .datas) (removed-entry (sw .old) (v .gone) (v .ty) ∷ (sw .F ++ C)) (box-t i wd cont ∷ sw .T) s2
-    w1 = subst (λ z. Invariant (q .datas) (removed-entry (sw .old) (v .gone) (v .ty) ∷ (sw .F ++ C)) (z ∷ sw .T) s2) (bo .3) (sw .world)
+    w1 = subst (λ z. Invariant (q .datas) (removed-entry (sw .old) (v .gone) (v .ty) ∷ (sw .F ++ C)) (z ∷ sw .T) s2) (bo .3) (sw .invariant)
 
     w2 : (U : List Tree) × Invariant (q .datas) (owned-entry cont tb ∷ (sw .F ++ C)) U (ends-box s2 i)
     w2 =
@@ -205,6 +205,6 @@ open-step q m u C ln g g2 d F T s x y e sc w =
             },
             sw .names,
           );
-      world = root-mid (q .datas) [] (owned-entry cont tb) (flat cont) (sw .F ++ C) (w2 .0) s3 refl (w2 .1);
+      invariant = root-mid (q .datas) [] (owned-entry cont tb) (flat cont) (sw .F ++ C) (w2 .0) s3 refl (w2 .1);
       under = ended-under s2 i ∙ sw .under;
     }

@@ -47,14 +47,14 @@ bind-step q m u h C ln g g2 d F T s x e1 e sc w =
             record {
               name = refl;
               place = refl;
-              flag = a .flight .flag;
-              type = a .flight .type;
+              flag = a .value-entry .flag;
+              type = a .value-entry .type;
               loans = a .covered;
               fresh = fresh-none (i .result .env) x (i .is-fresh);
             },
             a .names,
           );
-      world = root-mid (q .datas) [] (a .top) v (a .F ++ C) (a .T) t (a .flight .place) (a .world);
+      invariant = root-mid (q .datas) [] (a .top) v (a .F ++ C) (a .T) t (a .value-entry .place) (a .invariant);
       under = a .under;
     }))
 
@@ -67,9 +67,9 @@ pub int-then : (q : Prog) (m : Limits) (u : ℕ) → Preserved q m u
     → Invariant (q .datas) (F2 ++ C) T2 t → Safe Q (f t k)) → Safe Q (me.then (eval u m q d e1 s) (λ v t. me.need t (num-of v) (f t)))
 int-then q m u h {A} Q f C ln g d F T s e1 r e ty sc w go =
     safe-then Q (h .eval-ok C ln [] g d [] F T s e1 r e sc w)
-    (λ v t a. (let fl : Value-entry v int (a .top) = subst (λ z. Value-entry v z (a .top)) ty (a .flight) in
-    let nm = top-int (q .datas) (a .top) (a .F ++ C) (a .T) t v fl (a .world) in
-    let po = pop-int (q .datas) (a .top) (a .F ++ C) (a .T) t v fl (a .world) in
+    (λ v t a. (let fl : Value-entry v int (a .top) = subst (λ z. Value-entry v z (a .top)) ty (a .value-entry) in
+    let nm = top-int (q .datas) (a .top) (a .F ++ C) (a .T) t v fl (a .invariant) in
+    let po = pop-int (q .datas) (a .top) (a .F ++ C) (a .T) t v fl (a .invariant) in
     safe-need Q _ _ _ (nm .2)
     (go (nm .0) (a .F) (po .0) t (a .under) (record { names = a .names; above = λ l i. absurd i; under = sc .under }) (po .1))))
 
@@ -88,7 +88,7 @@ show-step q m u h C ln g g2 d F T s e1 e sc w =
       F = F2;
       T = T2;
       names = subst (λ z. Scope (length C) ln z d F2) (i .behind) (sc2 .names);
-      world = invariant-same (q .datas) (F2 ++ C) T2 t (shows t k) refl refl w2;
+      invariant = invariant-same (q .datas) (F2 ++ C) T2 t (shows t k) refl refl w2;
       under = un;
     }))
 
@@ -149,7 +149,7 @@ loop-step q m u h C ln g g2 d F T s e1 f1 e sc w =
       F = F2;
       T = T2;
       names = subst (λ j. Scope (length C) ln j d F2) (i .behind) (sc2 .names);
-      world = w2;
+      invariant = w2;
       under = un;
     }))
     (λ _. safe-then P (h .block-ok C ln [] gr (i .round) [] d F2 T2 t f1 (i .is-round) refl sc2 w2)
@@ -159,4 +159,4 @@ loop-step q m u h C ln g g2 d F T s e1 f1 e sc w =
     safe-turn P _ _ _
     (subst (λ j. Safe (After-exec q C ln g2 d j) (exec u m q d (loop e1 f1) (turned t2))) (b .under ∙ un)
     (h .exec-ok C ln g g2 d (b .F) (b .T) (turned t2) (loop e1 f1) e sc3
-    (invariant-same (q .datas) (b .F ++ C) (b .T) t2 (turned t2) refl refl (b .world)))))))))
+    (invariant-same (q .datas) (b .F ++ C) (b .T) t2 (turned t2) refl refl (b .invariant)))))))))

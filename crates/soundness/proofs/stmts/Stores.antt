@@ -38,7 +38,7 @@ drop-old : (q : Prog) (m : Limits) (u : ℕ) → Preserved q m u
     → Safe (After-exec q C ln g2 d k) (me.then (drops u m q v t) (λ j y. me.ok d y))
 drop-old q m u h C ln g2 d F T t k e v e-at un mt w =
     safe-then (After-exec q C ln g2 d k) (h .drops-ok e (F ++ C) T t v e-at w)
-    (λ j y a. safe-ok (record { newer = []; grown = refl; F = F; T = a .T; names = mt; world = a .world; under = a .under ∙ un }))
+    (λ j y a. safe-ok (record { newer = []; grown = refl; F = F; T = a .T; names = mt; invariant = a .invariant; under = a .under ∙ un }))
 
 -- x = e
 pub assign-step : (q : Prog) (m : Limits) (u : ℕ) → Preserved q m u
@@ -52,17 +52,17 @@ assign-step q m u h C ln g g2 d F T s x e1 e sc w =
     let vx = i .var1 in
     let P = After-exec q C ln g2 d (s .under) in
     safe-then P (h .eval-ok C ln [] g d [] F T s e1 (i .result) (i .is-expr) sc w)
-    (λ v t a. (let fl : Value-entry v (vx .ty) (a .top) = subst (λ k. Value-entry v k (a .top)) (i .same-type) (a .flight) in
-    let o = owned-top (q .datas) (a .top) (a .F ++ C) (a .T) t v (vx .ty) (i .is-owned) fl (a .world) in
+    (λ v t a. (let fl : Value-entry v (vx .ty) (a .top) = subst (λ k. Value-entry v k (a .top)) (i .same-type) (a .value-entry) in
+    let o = owned-top (q .datas) (a .top) (a .F ++ C) (a .T) t v (vx .ty) (i .is-owned) fl (a .invariant) in
     let sc1 : Frame C ln [] g1 d [] (a .F) = record { names = a .names; above = λ l j. absurd j; under = sc .under } in
     let sw = swap-name (q .datas) C ln [] g1 d [] (a .F) x vx false (a .top) (o .tree) (o .rest) t sc1 (i .is-var) (i .is-owned) (i .free)
     (fl .place ∙ ap in-flight (o .value)) (o .stored) (inl (o .typed))
-    (subst (λ k. Invariant (q .datas) (a .top ∷ (a .F ++ C)) k t) (o .trees) (a .world)) in
+    (subst (λ k. Invariant (q .datas) (a .top ∷ (a .F ++ C)) k t) (o .trees) (a .invariant)) in
     safe-need P _ _ _ (sw .named)
     (safe-need P _ _ _ (sw .reads-old)
     (safe-need P _ _ _ (ap (write-at t (here (sw .root))) (o .value) ∙ sw .writes-new)
     (drop-old q m u h C ln g2 d (sw .F) (sw .old ∷ sw .T) (sw .s2) (s .under) (removed-entry (sw .old) (vx .gone) (vx .ty)) (flat (sw .old)) refl
-    (sw .under ∙ a .under) (subst (λ k. Scope (length C) ln k d (sw .F)) (i .behind) (sw .names)) (sw .world))))))
+    (sw .under ∙ a .under) (subst (λ k. Scope (length C) ln k d (sw .F)) (i .behind) (sw .names)) (sw .invariant))))))
 
 -- a value on top goes in at the place of a free mut
 pub record Put (ds : List Data) (N : List Entry) (y : Tree) (s : State) (u : Ty) (w : Value) : Type 0 where
@@ -74,7 +74,7 @@ pub record Put (ds : List Data) (N : List Entry) (y : Tree) (s : State) (u : Ty)
   pub reads-old : read-at s loc ≡ some (flat old)
   pub typed : Typed ds old u
   pub writes-new : write-at s loc (flat y) ≡ some s2
-  pub world : Invariant ds (removed-entry old false u ∷ N) (old ∷ T) s2
+  pub invariant : Invariant ds (removed-entry old false u ∷ N) (old ∷ T) s2
   pub under : s2 .under ≡ s .under
 
 subtree-hole : (ds : List Data) (way : Path) (part : Tree) (u : Ty) → subtree way hole-t ≡ some part → Typed ds part u → ⊥
@@ -94,7 +94,7 @@ put-in ds top N y T s u a ls w lx t-at st-y ty-y ow x-at free pt wo = record {
   reads-old = rd;
   typed = pt .typed;
   writes-new = wr .is;
-  world = subst (λ z. Invariant ds (removed-entry old false u ∷ z) (old ∷ (cu .T1 ++ (replace (a .path) y tr ∷ cu .T2))) (wr .s2)) (sym (sp .2))
+  invariant = subst (λ z. Invariant ds (removed-entry old false u ∷ z) (old ∷ (cu .T1 ++ (replace (a .path) y tr ∷ cu .T2))) (wr .s2)) (sym (sp .2))
       (replace-at ds top y N1 ex N2 (cu .T1) tr (cu .T2) s r tx (a .path) old (ex .gone) false u t-at st-y ex-at (eb .2) (cu .len1)
       (cu .len2) lead wr content (inl (pt .typed)) ow kept w2);
   under = wr .under;
@@ -128,7 +128,7 @@ put-in ds top N y T s u a ls w lx t-at st-y ty-y ow x-at free pt wo = record {
     r = pt .root
 
     st : Entry-at ds (s .roots) N T (a .owner) ex
-    st = entry-at ds (s .roots) N T (a .owner) ex (wo .fine .1) (eb .1)
+    st = entry-at ds (s .roots) N T (a .owner) ex (wo .entries .1) (eb .1)
 
     ex-at : ex .at ≡ rooted r 0
     ex-at = some-is (sym (st .place) ∙ pt .standing)
@@ -137,7 +137,7 @@ put-in ds top N y T s u a ls w lx t-at st-y ty-y ow x-at free pt wo = record {
     w1 = subst (λ z. Invariant ds (top ∷ z) (y ∷ T) s) (sp .2) wo
 
     cu : Cut N1 N2 T
-    cu = split-trees N1 ex N2 T (entries-length ds (s .roots) (N1 ++ (ex ∷ N2)) T (w1 .fine .1))
+    cu = split-trees N1 ex N2 T (entries-length ds (s .roots) (N1 ++ (ex ∷ N2)) T (w1 .entries .1))
 
     tr : Tree
     tr = cu .tree
@@ -160,7 +160,7 @@ put-in ds top N y T s u a ls w lx t-at st-y ty-y ow x-at free pt wo = record {
     f-ex =
         subst (λ z. Entry-ok ds (s .roots) z (ex .gone) (own tx) tr N2 (cu .T2)) ex-at
         (subst (λ z. Entry-ok ds (s .roots) (ex .at) (ex .gone) z tr N2 (cu .T2)) (eb .2)
-        (entry-ok-mid ds (s .roots) N1 (cu .T1) ex N2 tr (cu .T2) (cu .len1) (w2 .fine .1)))
+        (entry-ok-mid ds (s .roots) N1 (cu .T1) ex N2 tr (cu .T2) (cu .len1) (w2 .entries .1)))
 
     rd : read-at s (loc-down (here r) (a .path) tr) ≡ some (flat old)
     rd = reads-way s (here r) (a .path) tr old lead (f-ex .1) (reads s r (flat tr) 0 (f-ex .0))
@@ -197,7 +197,7 @@ pub record Mut-at (ds : List Data) (N : List Entry) (T : List Tree) (s : State) 
 
 mut-at : (ds : List Data) (N : List Entry) (T : List Tree) (s : State) (lx root : ℕ) (u : Ty) (e : Entry) → Kind-fits (mut u) (e .kind)
     → e .at ≡ rooted root 0 → at-level N lx ≡ some e → Entries-ok ds (s .roots) N T → Mut-at ds N T s lx root u
-mut-at ds N T s lx root u e su e-at at1 fi = go (e .kind) su (level-kinds N lx e at1) (st .fine1)
+mut-at ds N T s lx root u e su e-at at1 fi = go (e .kind) su (level-kinds N lx e at1) (st .ok-entry)
   where
     st : Entry-at ds (s .roots) N T lx e
     st = entry-at ds (s .roots) N T lx e fi at1
@@ -230,14 +230,14 @@ store-step q m u h C ln g g2 d F T s x e1 e sc w =
     let ty = i .target in
     let P = After-exec q C ln g2 d (s .under) in
     safe-then P (h .eval-ok C ln [] g d [] F T s e1 (i .result) (i .is-expr) sc w)
-    (λ v t a. (let fl : Value-entry v ty (a .top) = subst (λ k. Value-entry v k (a .top)) (i .same-type) (a .flight) in
-    let o = owned-top (q .datas) (a .top) (a .F ++ C) (a .T) t v ty (i .is-owned) fl (a .world) in
+    (λ v t a. (let fl : Value-entry v ty (a .top) = subst (λ k. Value-entry v k (a .top)) (i .same-type) (a .value-entry) in
+    let o = owned-top (q .datas) (a .top) (a .F ++ C) (a .T) t v ty (i .is-owned) fl (a .invariant) in
     let w2 : Invariant (q .datas) (a .top ∷ (a .F ++ C)) (o .tree ∷ o .rest) t
-    = subst (λ k. Invariant (q .datas) (a .top ∷ (a .F ++ C)) k t) (o .trees) (a .world) in
+    = subst (λ k. Invariant (q .datas) (a .top ∷ (a .F ++ C)) k t) (o .trees) (a .invariant) in
     let sc1 : Frame C ln [] g1 d [] (a .F) = record { names = a .names; above = λ l j. absurd j; under = sc .under } in
     let en = name-entry C ln g1 d (a .F) x (i .var1) (a .names) (i .is-var) in
     let mu = mut-at (q .datas) (a .F ++ C) (o .rest) t (en .level) (en .root) ty (en .en)
-    (subst (λ k. Kind-fits k (en .en .kind)) (i .is-mut) (en .type)) (en .placed) (en .stands) (w2 .fine .1) in
+    (subst (λ k. Kind-fits k (en .en .kind)) (i .is-mut) (en .type)) (en .placed) (en .stands) (w2 .entries .1) in
     let not-lent = not-lent-by-name C ln [] g1 d [] (a .F) x (en .level) false sc1 (anchored-under (a .F) C (w2 .borrows .anchored .1))
     (en .levelled) (free-not-among (all-loans g1) x (i .free)) in
     let pu = put-in (q .datas) (a .top) (a .F ++ C) (o .tree) (o .rest) t ty (mu .addr) (mu .ls) (mu .val) (en .level)
@@ -248,4 +248,4 @@ store-step q m u h C ln g g2 d F T s x e1 e sc w =
     (safe-need P _ _ _ (ap (λ z. if-some z me.there) (pu .reads-old) ∙ typed-there (q .datas) (pu .old) ty (pu .typed))
     (safe-need P _ _ _ (ap (write-at t (pu .loc)) (o .value) ∙ pu .writes-new)
     (drop-old q m u h C ln g2 d (a .F) (pu .old ∷ pu .T) (pu .s2) (s .under) (removed-entry (pu .old) false ty) (flat (pu .old)) refl
-    (pu .under ∙ a .under) (subst (λ k. Scope (length C) ln k d (a .F)) (i .behind) (a .names)) (pu .world))))))))
+    (pu .under ∙ a .under) (subst (λ k. Scope (length C) ln k d (a .F)) (i .behind) (a .names)) (pu .invariant))))))))
