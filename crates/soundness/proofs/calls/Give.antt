@@ -19,12 +19,12 @@ use Rattle.soundness.specs.Invariant.{Entry, kinds, Entry-ok, Invariant}
 use Rattle.soundness.specs.Frames.{Loans-cover, Kind-fits, Frame, Ref-params}
 use Rattle.soundness.specs.Preserved.{Safe, After-eval, After-give, Preserved}
 use Rattle.soundness.proofs.Basics.{true-false, and-left, and-right}
-use Rattle.soundness.proofs.loans.Stack.{push-own, pop-borrows}
+use Rattle.soundness.proofs.loans.Free.{push-own, pop-borrows}
 use Rattle.soundness.proofs.invariant.Levels.{borrows-under, entries-length}
 use Rattle.soundness.proofs.statics.Exprs.{Env-like, expr-like}
 use Rattle.soundness.proofs.statics.Rules.{same-ty-is}
 use Rattle.soundness.proofs.statics.FromCaller.{from-caller-like, lent-like}
-use Rattle.soundness.proofs.frames.Names.{from-caller-ok}
+use Rattle.soundness.proofs.frames.Caller.{from-caller-ok}
 use Rattle.soundness.proofs.frames.Return.{retired, retired-no-borrows, retired-named, given-borrows, valid-ref-down, give-below}
 use Rattle.soundness.proofs.Safety.{safe-weaken}
 use Rattle.soundness.proofs.stmts.Plain.{int-then}

@@ -16,7 +16,9 @@ use Rattle.soundness.specs.Borrows.{Kind, own, borrow, inert}
 use Rattle.soundness.specs.Invariant.{in-flight, Entry, Content, Entry-ok, Invariant}
 use Rattle.soundness.specs.Frames.{owned-entry}
 use Rattle.soundness.specs.Preserved.{safe-ok, Safe, After-end, Ends-ok, Drops-ok, Parts-ok, Drops-all-ok, Preserved}
-use Rattle.soundness.proofs.invariant.Top.{words-pos, invariant-same, unrooted, kill-top, pop-top, owned-entries, trees-of, parts-dropping, open-con, shell, open-box, end-box-top, retype-top, reads, top-value, killed-under, ended-under}
+use Rattle.soundness.proofs.memory.Sizes.{words-pos}
+use Rattle.soundness.proofs.invariant.Top.{invariant-same, unrooted, kill-top, pop-top, retype-top, reads, top-value, killed-under, ended-under}
+use Rattle.soundness.proofs.invariant.Apart.{owned-entries, trees-of, parts-dropping, open-con, shell, open-box, end-box-top}
 use Rattle.soundness.proofs.statics.Accepted.{home-in, last-fn}
 use Rattle.soundness.proofs.Safety.{safe-then, safe-need, safe-under, safe-choose}
 

@@ -17,7 +17,8 @@ use Rattle.soundness.specs.Trees.{Tree, hole-t, flat, Typed}
 use Rattle.soundness.specs.Invariant.{rooted, in-flight, Entry, kinds, places, Invariant}
 use Rattle.soundness.specs.Frames.{all-loans-of, Arguments, no-args, snoc-arg, owned-entry}
 use Rattle.soundness.specs.Preserved.{Safe, After-call, After-end, Lasts-ok, Preserved}
-use Rattle.soundness.proofs.loans.Stack.{level-top, level-below, reborrow}
+use Rattle.soundness.proofs.loans.Levels.{level-top, level-below}
+use Rattle.soundness.proofs.loans.Exclusivity.{reborrow}
 use Rattle.soundness.proofs.invariant.Levels.{level-at, kinds-length, places-length, entries-length, not-gone}
 use Rattle.soundness.proofs.invariant.Top.{kill-top, root-top, reads, killed-under, pop-int}
 use Rattle.soundness.proofs.Safety.{safe-then, safe-need}

@@ -17,7 +17,7 @@ use Rattle.soundness.specs.Preserved.{safe-ok, After-args, Evals-ok, Preserved
 use Rattle.soundness.proofs.Basics.{no-some, some-is, append-nil, in-left, in-right}
 use Rattle.soundness.proofs.frames.Covers.{cover-same, in-either, cover-both, all-loans-both}
 use Rattle.soundness.proofs.Safety.{safe-then, safe-weaken}
-use Rattle.soundness.proofs.statics.Inversion.{args-rule}
+use Rattle.soundness.proofs.statics.ExprRules.{args-rule}
 
 -- the loans of one argument, and those of the arguments behind it
 all-covered : (q : Prog) (C : List Entry) (ln : List Level-loan) (d : me.Env) (F F2 K : List Entry) (e : Entry) (r1 r2 : ch.Typed)

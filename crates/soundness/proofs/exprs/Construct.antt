@@ -23,9 +23,9 @@ use Rattle.soundness.proofs.Basics.{some-is, append-nil}
 use Rattle.soundness.proofs.invariant.Values.{Owned-top, owned-top}
 use Rattle.soundness.proofs.invariant.Construct.{make-con, words-is, make-box}
 use Rattle.soundness.proofs.statics.Accepted.{fields-owned, fns-ok}
-use Rattle.soundness.proofs.frames.Names.{name-level-low, scope-length}
+use Rattle.soundness.proofs.frames.Levels.{name-level-low, scope-length}
 use Rattle.soundness.proofs.Safety.{safe-then, safe-need, safe-choose, safe-weaken}
-use Rattle.soundness.proofs.statics.Inversion.{ctor-rule, call-rule, boxed-rule, Boxed-rule}
+use Rattle.soundness.proofs.statics.ExprRules.{ctor-rule, call-rule, boxed-rule, Boxed-rule}
 
 -- C(..)
 pub ctor-step : (q : Prog) (m : Limits) (u : ℕ) → ch.accepts q ≡ true → Preserved q m u

@@ -24,7 +24,7 @@ use Rattle.soundness.proofs.statics.Rules.{there-is, same-ty-is}
 use Rattle.soundness.proofs.frames.Lookup.{Name-at, name-at}
 use Rattle.soundness.proofs.Safety.{safe-then, safe-need}
 use Rattle.soundness.proofs.exprs.Results.{int-after, frame-after}
-use Rattle.soundness.proofs.statics.Inversion.{op-rule, load-rule, Load-rule}
+use Rattle.soundness.proofs.statics.ExprRules.{op-rule, load-rule, Load-rule}
 
 pub num-step : (q : Prog) (m : Limits) (u : ℕ) (C : List Entry) (ln : List Level-loan) (held : List Loan) (g : ch.Env) (d : me.Env) (H F : List Entry)
     (T : List Tree) (s : State) (k : ℕ) (r : ch.Typed) → ch.expr q held g (num k) ≡ some r → Frame C ln held g d H F

@@ -17,12 +17,13 @@ use Rattle.soundness.specs.Invariant.{Entry, kinds, Entry-ok, Invariant, roote
 use Rattle.soundness.specs.Frames.{Kind-fits, Frame}
 use Rattle.soundness.specs.Preserved.{safe-ok, Safe, After-eval}
 use Rattle.soundness.proofs.Basics.{true-false}
-use Rattle.soundness.proofs.loans.Stack.{unobstructed-free, prefix-self}
+use Rattle.soundness.proofs.loans.Exclusivity.{unobstructed-free}
+use Rattle.soundness.proofs.loans.Levels.{prefix-self}
 use Rattle.soundness.proofs.invariant.Levels.{not-gone}
 use Rattle.soundness.proofs.invariant.Borrows.{one-loan, push-loan}
 use Rattle.soundness.proofs.statics.Rules.{there-is}
 use Rattle.soundness.proofs.Safety.{safe-need}
-use Rattle.soundness.proofs.statics.Inversion.{Lend-rule, lend-rule}
+use Rattle.soundness.proofs.statics.ExprRules.{Lend-rule, lend-rule}
 use Rattle.soundness.proofs.frames.Lookup.{Name-at, name-at, free-at, one-covered}
 use Rattle.soundness.proofs.exprs.Results.{ref-after}
 

@@ -19,7 +19,8 @@ use Rattle.soundness.specs.Invariant.{rooted, Entry, kinds, Valid-ref, Entry-o
 use Rattle.soundness.specs.Frames.{Loans-cover, Kind-fits, Scope, Frame}
 use Rattle.soundness.specs.Preserved.{safe-ok, Safe, After-eval}
 use Rattle.soundness.proofs.Basics.{no-some, some-is, if-some-is, only-is, true-false}
-use Rattle.soundness.proofs.loans.Stack.{unobstructed-free, unobstructed-readable, prefix-self}
+use Rattle.soundness.proofs.loans.Exclusivity.{unobstructed-free, unobstructed-readable}
+use Rattle.soundness.proofs.loans.Levels.{prefix-self}
 use Rattle.soundness.proofs.invariant.Levels.{not-gone}
 use Rattle.soundness.proofs.invariant.Top.{reads}
 use Rattle.soundness.proofs.invariant.Replace.{removed-entry}

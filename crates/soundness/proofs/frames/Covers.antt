@@ -13,7 +13,7 @@ use Rattle.soundness.specs.Borrows.{In, Level-loan, loans-of}
 use Rattle.soundness.specs.Invariant.{Entry}
 use Rattle.soundness.specs.Frames.{name-level, Loans-cover, Scope, all-loans-of}
 use Rattle.soundness.proofs.Basics.{in-left, in-right}
-use Rattle.soundness.proofs.frames.Names.{scope-length}
+use Rattle.soundness.proofs.frames.Levels.{scope-length}
 
 -- two static environments of the same names
 pub same-name-levels : (base : ℕ) (ln : List Level-loan) (g g2 : ch.Env) (d : me.Env) (F F2 : List Entry) → Scope base ln g d F

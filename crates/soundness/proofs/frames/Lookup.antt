@@ -18,7 +18,8 @@ use Rattle.soundness.specs.Invariant.{Place, rooted, Entry, kinds, places, Ent
 use Rattle.soundness.specs.Frames.{name-level, Loans-cover, Kind-fits, Frame}
 use Rattle.soundness.proofs.invariant.Levels.{anchored-under, level-kinds, Entry-at, entry-at, level-under}
 use Rattle.soundness.proofs.invariant.Borrows.{one-loan}
-use Rattle.soundness.proofs.frames.Names.{not-lent-by-name, free-not-among, readable-not-among, Name-entry, name-entry}
+use Rattle.soundness.proofs.frames.Free.{not-lent-by-name, free-not-among, readable-not-among}
+use Rattle.soundness.proofs.frames.Levels.{Name-entry, name-entry}
 
 -- what stands at a name, in the whole stack
 pub record Name-at (ds : List Data) (C : List Entry) (ln : List Level-loan) (g : ch.Env) (d : me.Env) (H F : List Entry) (T : List Tree) (s : State)

@@ -15,7 +15,7 @@ use Rattle.soundness.specs.Invariant.{rooted, kinds, Entry-ok}
 use Rattle.soundness.specs.Frames.{Kind-fits}
 use Rattle.soundness.specs.References.{There-typed, Reference-valid, None-into-free, None-below-free, References-down}
 use Rattle.soundness.proofs.Basics.{some-is, true-false}
-use Rattle.soundness.proofs.loans.Stack.{none-below, owner-older, none-into}
+use Rattle.soundness.proofs.loans.Free.{none-below, owner-older, none-into}
 use Rattle.soundness.proofs.invariant.Levels.{not-gone}
 use Rattle.soundness.proofs.invariant.Top.{reads}
 use Rattle.soundness.proofs.invariant.Values.{owned-kind}

@@ -18,9 +18,12 @@ use Rattle.soundness.specs.Trees.{Tree, tree-sum}
 use Rattle.soundness.specs.Invariant.{Place, rooted, Entry, kinds, places, Valid-ref, Idle, Entry-ok, Entries-ok, place-sum, stack-sum, Invariant}
 use Rattle.soundness.specs.Frames.{name-level, Loans-cover, Scope, Roots-named, No-borrows}
 use Rattle.soundness.proofs.Basics.{no-some, some-is}
-use Rattle.soundness.proofs.loans.Stack.{level-top, level-below, level-push, Permitted, permitted-at, owner-older, push-own, push-inert, pop-borrows}
+use Rattle.soundness.proofs.loans.Levels.{level-top, level-below, level-push}
+use Rattle.soundness.proofs.loans.Exclusivity.{Permitted, permitted-at}
+use Rattle.soundness.proofs.loans.Free.{owner-older, push-own, push-inert, pop-borrows}
 use Rattle.soundness.proofs.invariant.Levels.{kinds-length, borrows-under, places-length, level-under}
-use Rattle.soundness.proofs.frames.Names.{name-level-low, Of-owner}
+use Rattle.soundness.proofs.frames.Levels.{name-level-low}
+use Rattle.soundness.proofs.frames.Caller.{Of-owner}
 
 -- references that are used no more
 abbrev pub retire : Kind → Kind

@@ -14,10 +14,12 @@ use Rattle.soundness.specs.Trees.{Tree, hole-t, flat, Stored, loc-down}
 use Rattle.soundness.specs.Borrows.{Addr, Level-loan, Kind, own, borrow, inert, at-level, exclusive, addr-of, Prefix, Exclusivity, Anchored1, Anchored}
 use Rattle.soundness.specs.Invariant.{rooted, in-flight, Entry, kinds, Valid-ref, Entry-ok, Invariant}
 use Rattle.soundness.proofs.Basics.{no-some, some-is, true-false}
-use Rattle.soundness.proofs.loans.Stack.{level-case, level-below, level-push, Unobstructed, reborrow, owner-push}
+use Rattle.soundness.proofs.loans.Levels.{level-case, level-below, level-push}
+use Rattle.soundness.proofs.loans.Exclusivity.{Unobstructed, reborrow}
+use Rattle.soundness.proofs.loans.Free.{owner-push}
 use Rattle.soundness.proofs.invariant.Levels.{entry-back, Entry-at, entry-at}
 use Rattle.soundness.proofs.invariant.Top.{reads}
-use Rattle.soundness.proofs.invariant.Replace.{subtree-stored, reads-way}
+use Rattle.soundness.proofs.memory.Reads.{subtree-stored, reads-way}
 
 anchored-push : (y : Kind) (N : List Kind) (x : Bool) (t : Ty) (a : Addr) (ls : List Level-loan) → Anchored1 N (borrow x t a ls)
     → Anchored1 (y ∷ N) (borrow x t a ls)

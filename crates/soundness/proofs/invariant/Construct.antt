@@ -19,9 +19,11 @@ use Rattle.soundness.specs.Invariant.{in-flight, Entry, kinds, Entries-ok, pla
 use Rattle.soundness.specs.Frames.{Arguments, no-args, snoc-arg, owned-entry}
 use Rattle.soundness.proofs.Basics.{and-left, and-right}
 use Rattle.soundness.proofs.memory.Paths.{mark}
-use Rattle.soundness.proofs.loans.Stack.{push-own, pop-borrows}
+use Rattle.soundness.proofs.loans.Free.{push-own, pop-borrows}
 use Rattle.soundness.proofs.invariant.Levels.{borrows-under}
-use Rattle.soundness.proofs.invariant.Top.{typed-owned, words-pos, sum-push, at-push, at-last, Elsewhere, stored-else, entries-ok-else, sum-high}
+use Rattle.soundness.proofs.memory.Sizes.{typed-owned, words-pos}
+use Rattle.soundness.proofs.memory.Roots.{sum-push, at-push, at-last, sum-high}
+use Rattle.soundness.proofs.invariant.Elsewhere.{Elsewhere, stored-else, entries-ok-else}
 use Rattle.soundness.proofs.invariant.Values.{owned-value}
 
 -- one more part behind the others

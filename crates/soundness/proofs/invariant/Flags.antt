@@ -17,7 +17,7 @@ use Rattle.soundness.specs.Borrows.{Level-loan, Kind, own, borrow, inert, at-l
 use Rattle.soundness.specs.Invariant.{Place, Entry, kinds, places, Content, Entry-ok, Entries-ok, place-sum, stack-sum, Invariant}
 use Rattle.soundness.specs.Frames.{name-level, Loans-cover, Kind-fits, Scope}
 use Rattle.soundness.proofs.Basics.{no-some, true-false}
-use Rattle.soundness.proofs.invariant.Replace.{with-gone}
+use Rattle.soundness.proofs.invariant.Middle.{with-gone}
 
 -- entries, the same but for more flags
 abbrev pub More-gone : List Entry → List Entry → Type 0

@@ -14,7 +14,8 @@ use Rattle.soundness.specs.Trees.{Tree, Typed}
 use Rattle.soundness.specs.Borrows.{Addr, Kind, own, borrow, inert, at-level, Anchored, Well-borrowed}
 use Rattle.soundness.specs.Invariant.{Place, rooted, Entry, kinds, places, Content, Valid-ref, Entry-ok, Entries-ok}
 use Rattle.soundness.proofs.Basics.{no-some, true-false}
-use Rattle.soundness.proofs.loans.Stack.{level-top, level-case, level-below, level-push, pop-borrows}
+use Rattle.soundness.proofs.loans.Levels.{level-top, level-case, level-below, level-push}
+use Rattle.soundness.proofs.loans.Free.{pop-borrows}
 
 pub anchored-under : (H C : List Entry) → Anchored (kinds (H ++ C)) → Anchored (kinds C)
 anchored-under [] C h = h

@@ -1,139 +1,29 @@
 -- Replacing: what is at the top goes in at a path of an owner, what was there comes out to the top. Moves, assignments and stores are this.
-use mathlib.Core.Bool.{Bool, true, false}
+use mathlib.Core.Bool.{Bool, true}
 use mathlib.Core.List.{List, [], _∷_, _++_}
 use mathlib.Core.Logic.{inl, inr}
-use mathlib.Core.Option.{Option, some, none}
+use mathlib.Core.Option.{Option, some}
 use mathlib.Core.Path.{_≡_, refl, sym, _∙_, ap, subst}
-use Prim.Native.Nat.{ℕ, zero, suc, _+_, _≤_}
+use Prim.Native.Nat.{ℕ, suc, _+_, _≤_}
 use native.Mathlib.Omega.{arith}
-use lib.Dec.{eqb}
 use lib.ListN.{length}
-use Rattle.language.specs.Base.{choose, if-some, at-place, set-at}
 use Rattle.language.specs.Syntax.{Ty, Data}
 use Rattle.language.specs.Checks.{owned}
-use Rattle.language.specs.Meaning.{Loc, Value, Root, State, here, read-at, ref-v, live-root, with-roots, write-at, at-path, put-path}
-use Rattle.soundness.specs.Trees.{Tree, int-t, con-t, box-t, hole-t, Trees, nil-t, cons-t, flat, tree-sum, Stored, Stored-all, Typed, Step, field-step, box-step, Path, nth-t, child, set-child, subtree, replace, loc-step, loc-down}
+use Rattle.language.specs.Meaning.{Loc, Value, Root, State, here, ref-v}
+use Rattle.soundness.specs.Trees.{Tree, box-t, hole-t, flat, tree-sum, Stored, Typed, Path, child, set-child, subtree, replace, loc-step, loc-down}
 use Rattle.soundness.specs.Borrows.{Addr, Level-loan, Kind, own, borrow, inert, at-level, Well-borrowed}
-use Rattle.soundness.specs.Invariant.{Place, rooted, in-flight, Entry, kinds, places, Content, Valid-ref, Entry-ok, Entries-ok, place-sum, stack-sum, live-sum, in-use-of, of-size, is-box, Invariant}
-use Rattle.soundness.proofs.Basics.{no-some, some-is, if-some-is, order-case}
-use Rattle.soundness.proofs.memory.Paths.{at-put-same, at-put-other, at-path-then, nth-flats, mark, mark-self, replace-step, loc-down-step, subtree-step, sum-replace, extend, Outcome, same-root, in-a-box, outcome, Written, stored-other, stored-box, stored-replace}
+use Rattle.soundness.specs.Invariant.{Place, rooted, in-flight, Entry, kinds, places, Content, Valid-ref, Entry-ok, Entries-ok, place-sum, stack-sum, in-use-of, of-size, is-box, Invariant}
+use Rattle.soundness.proofs.Basics.{some-is, if-some-is, order-case}
+use Rattle.soundness.proofs.memory.Paths.{mark, mark-self, replace-step, loc-down-step, subtree-step, sum-replace, Outcome, same-root, in-a-box, outcome, stored-other, stored-box, stored-replace}
 use Rattle.soundness.proofs.memory.Typing.{child-set-same, loc-step-set, Ref-stays}
-use Rattle.soundness.proofs.loans.Stack.{level-top, level-below, level-push, push-own, pop-borrows}
-use Rattle.soundness.proofs.invariant.Levels.{entry-ok-mid, places-length}
-use Rattle.soundness.proofs.invariant.Top.{Elsewhere, entry-ok-else, entries-ok-else, once-in}
-
--- reading down a path
-read-then : (s : State) (l : Loc) (js : List ℕ) → read-at s (extend l js) ≡ if-some (read-at s l) (at-path js)
-read-then s l js = go (live-root s (l .root))
-  where
-    go : (o : Option Root) → if-some o (λ x. at-path (l .path ++ js) (x .val)) ≡ if-some (if-some o (λ x. at-path (l .path) (x .val))) (at-path js)
-    go none = refl
-    go (some x) = at-path-then (l .path) js (x .val)
-
-nth-stored : (rs : List Root) (ts : Trees) (i : ℕ) (k : Tree) → nth-t ts i ≡ some k → Stored-all rs ts → Stored rs k
-nth-stored rs nil-t i k e s = absurd (no-some e)
-nth-stored rs (cons-t t ts) zero k e s = subst (Stored rs) (some-is e) (s .0)
-nth-stored rs (cons-t t ts) (suc i) k e s = nth-stored rs ts i k e (s .1)
-
-child-stored : (rs : List Root) (i : Step) (x k : Tree) → child i x ≡ some k → Stored rs x → Stored rs k
-child-stored rs (field-step i) (int-t a) k e s = absurd (no-some e)
-child-stored rs (field-step i) (con-t a ts) k e s = nth-stored rs ts i k e s
-child-stored rs (field-step i) (box-t r w x) k e s = absurd (no-some e)
-child-stored rs (field-step i) hole-t k e s = absurd (no-some e)
-child-stored rs box-step (int-t a) k e s = absurd (no-some e)
-child-stored rs box-step (con-t a ts) k e s = absurd (no-some e)
-child-stored rs box-step (box-t r w x) k e s = subst (Stored rs) (some-is e) (s .1)
-child-stored rs box-step hole-t k e s = absurd (no-some e)
-
-pub subtree-stored : (rs : List Root) (q : Path) (x old : Tree) → subtree q x ≡ some old → Stored rs x → Stored rs old
-subtree-stored rs [] x old e s = subst (Stored rs) (some-is e) s
-subtree-stored rs (i ∷ is) x old e s = go (if-some-is (child i x) (subtree is) old e) (λ k ek sk. subtree-stored rs is k old ek sk)
-  where
-    go : (k : Tree) × (child i x ≡ some k) × (subtree is k ≡ some old) → ((k : Tree) → subtree is k ≡ some old → Stored rs k → Stored rs old)
-        → Stored rs old
-    go z ih = ih (z .0) (z .2) (child-stored rs i x (z .0) (z .1) s)
-
-child-reads : (s : State) (l : Loc) (i : Step) (x k : Tree) → child i x ≡ some k → Stored (s .roots) x → read-at s l ≡ some (flat x)
-    → read-at s (loc-step l i x) ≡ some (flat k)
-child-reads s l (field-step i) (int-t a) k e st rd = absurd (no-some e)
-child-reads s l (field-step i) (con-t a ts) k e st rd =
-    read-then s l (i ∷ []) ∙ ap (λ o. if-some o (at-path (i ∷ []))) rd ∙ ap (λ o. if-some o (at-path [])) (nth-flats ts i k e)
-child-reads s l (field-step i) (box-t r w x) k e st rd = absurd (no-some e)
-child-reads s l (field-step i) hole-t k e st rd = absurd (no-some e)
-child-reads s l box-step (int-t a) k e st rd = absurd (no-some e)
-child-reads s l box-step (con-t a ts) k e st rd = absurd (no-some e)
-child-reads s l box-step (box-t r w x) k e st rd =
-    ap (λ o. if-some (if-some o (λ y. choose (y .live) (some y) none)) (λ y. at-path [] (y .val))) (st .0) ∙ ap {B = Option Value}
-    (λ z. some (flat z)) (some-is e)
-child-reads s l box-step hole-t k e st rd = absurd (no-some e)
-
--- reading: at the place of a path stands what is down that path
-pub reads-way : (s : State) (l : Loc) (q : Path) (x part : Tree) → subtree q x ≡ some part → Stored (s .roots) x → read-at s l ≡ some (flat x)
-    → read-at s (loc-down l q x) ≡ some (flat part)
-reads-way s l [] x part e st rd = rd ∙ ap {B = Option Value} (λ z. some (flat z)) (some-is e)
-reads-way s l (i ∷ is) x part e st rd = go (if-some-is (child i x) (subtree is) part e) (λ l2 k ek sk rk. reads-way s l2 is k part ek sk rk)
-  where
-    go : (k : Tree) × (child i x ≡ some k) × (subtree is k ≡ some part)
-        → ((l2 : Loc) (k : Tree) → subtree is k ≡ some part → Stored (s .roots) k → read-at s l2 ≡ some (flat k)
-        → read-at s (loc-down l2 is k) ≡ some (flat part)) → read-at s (loc-down l (i ∷ is) x) ≡ some (flat part)
-    go z ih =
-        ap (read-at s) (loc-down-step l i is x (z .0) (z .1)) ∙ ih (loc-step l i x) (z .0) (z .2) (child-stored (s .roots) i x (z .0) (z .1) st)
-        (child-reads s l i x (z .0) (z .1) st rd)
-
--- the write, where something can be read
-sum-write : (f : ℕ → ℕ → ℕ) (i : ℕ) (rs : List Root) (r : ℕ) (y : Root) (v : Value) → at-place rs r ≡ some y → y .live ≡ true
-    → live-sum f i (set-at rs r (record { live = true; val = v; words = y .words })) ≡ live-sum f i rs
-sum-write f i [] r y v e l = refl
-sum-write f i (x ∷ rs) zero y v e l =
-    let h : x ≡ y = some-is e in
-    ap (λ z. z + live-sum f (suc i) rs) (sym (ap (λ z. choose (z .live) (f i (z .words)) 0) h ∙ ap (λ z. choose z (f i (y .words)) 0) l))
-sum-write f i (x ∷ rs) (suc r) y v e l = ap (λ z. choose (x .live) (f i (x .words)) 0 + z) (sum-write f (suc i) rs r y v e l)
-
-pub record Wrote (s : State) (l : Loc) (v : Value) : Type 0 where
-  pub s2 : State
-  pub is : write-at s l v ≡ some s2
-  pub written : Written (s .roots) (s2 .roots) l v
-  pub totals : (f : ℕ → ℕ → ℕ) → live-sum f 0 (s2 .roots) ≡ live-sum f 0 (s .roots)
-  pub classes : s2 .classes ≡ s .classes
-  pub under : s2 .under ≡ s .under
-
-pub writes : (s : State) (l : Loc) (v old : Value) → read-at s l ≡ some old → Wrote s l v
-writes s l v old rd = go (at-place (s .roots) (l .root)) refl rd
-  where
-    after : (y : Root) → at-place (s .roots) (l .root) ≡ some y → y .live ≡ true → at-path (l .path) (y .val) ≡ some old → Wrote s l v
-    after y e lv ap1 = record {
-      s2 = with-roots s (set-at (s .roots) (l .root) (record { live = true; val = put-path (l .path) v (y .val); words = y .words }));
-      is =
-          ap (λ o. if-some (if-some o (λ x. choose (x .live) (some x) none))
-          (λ x. if-some (at-path (l .path) (x .val))
-          (λ z. some (with-roots s (set-at (s .roots) (l .root) (record { live = true; val = put-path (l .path) v (x .val); words = x .words })))))) e
-          ∙ ap (λ z. if-some (choose z (some y) none)
-          (λ x. if-some (at-path (l .path) (x .val))
-          (λ z. some (with-roots s (set-at (s .roots) (l .root)
-          (record { live = true; val = put-path (l .path) v (x .val); words = x .words })))))) lv
-          ∙ ap (λ o. if-some o (λ z. some (with-roots s
-          (set-at (s .roots) (l .root) (record { live = true; val = put-path (l .path) v (y .val); words = y .words }))))) ap1;
-      written = record {
-        others = λ j ne. at-put-other (s .roots) (l .root) j (record { live = true; val = put-path (l .path) v (y .val); words = y .words }) ne;
-        now-there =
-            λ x ex. (let same1 : y ≡ x = some-is (sym e ∙ ex) in at-put-same (s .roots) (l .root) y
-            (record { live = true; val = put-path (l .path) v (y .val); words = y .words }) e ∙ ap {B = Option Root}
-            (λ z. some (record { live = true; val = put-path (l .path) v (z .val); words = z .words })) same1);
-      };
-      totals = λ f. sum-write f 0 (s .roots) (l .root) y (put-path (l .path) v (y .val)) e lv;
-      classes = refl;
-      under = refl;
-    }
-
-    by-live : (y : Root) (z : Bool) → y .live ≡ z → at-place (s .roots) (l .root) ≡ some y
-        → if-some (choose z (some y) none) (λ x. at-path (l .path) (x .val)) ≡ some old → Wrote s l v
-    by-live y true lv e h = after y e lv h
-    by-live y false lv e h = absurd (no-some h)
-
-    go : (o : Option Root) → at-place (s .roots) (l .root) ≡ o
-        → if-some (if-some o (λ x. choose (x .live) (some x) none)) (λ x. at-path (l .path) (x .val)) ≡ some old → Wrote s l v
-    go none e h = absurd (no-some h)
-    go (some y) e h = by-live y (y .live) refl e h
+use Rattle.soundness.proofs.loans.Levels.{level-top, level-below, level-push}
+use Rattle.soundness.proofs.loans.Free.{push-own, pop-borrows}
+use Rattle.soundness.proofs.invariant.Levels.{entry-ok-mid}
+use Rattle.soundness.proofs.invariant.Elsewhere.{Elsewhere, entry-ok-else, entries-ok-else}
+use Rattle.soundness.proofs.invariant.Top.{once-in}
+use Rattle.soundness.proofs.memory.Reads.{subtree-stored}
+use Rattle.soundness.proofs.memory.Writes.{Wrote}
+use Rattle.soundness.proofs.invariant.Middle.{level-mid-other, kinds-mid, level-mid, with-gone, places-mid, sum-mid, places-two}
 
 -- what's put in at q is there, and q leads to the same place
 subtree-put : (q : Path) (x z old : Tree) → subtree q x ≡ some old → subtree q (replace q z x) ≡ some z
@@ -178,54 +68,6 @@ old-apart l q x old e once out = go (outcome l q (replace q hole-t x) hole-t hol
     go (in-a-box h e1) =
         let h2 : 1 ≤ tree-sum (mark d) (replace q hole-t x) = subst (λ z. 1 ≤ tree-sum (mark z) (replace q hole-t x)) same-d h in
         let k = sum-replace (mark d) q hole-t x old e in let k2 = once d in omega arith
-
--- in the middle of a stack
-pub level-mid : {A : Type 0} (xs : List A) (x : A) (ys : List A) → at-level (xs ++ (x ∷ ys)) (length ys) ≡ some x
-level-mid [] x ys = level-top x ys
-level-mid (z ∷ xs) x ys = let h = level-mid xs x ys in level-push z (xs ++ (x ∷ ys)) (length ys) (level-below (xs ++ (x ∷ ys)) (length ys) x h) ∙ h
-
-mid-length : {A : Type 0} (xs : List A) (x y : A) (ys : List A) → length (xs ++ (x ∷ ys)) ≡ length (xs ++ (y ∷ ys))
-mid-length [] x y ys = refl
-mid-length (z ∷ xs) x y ys = ap suc (mid-length xs x y ys)
-
-pub level-mid-other : {A : Type 0} (xs : List A) (x y : A) (ys : List A) (j : ℕ) → (j ≡ length ys → ⊥)
-    → at-level (xs ++ (x ∷ ys)) j ≡ at-level (xs ++ (y ∷ ys)) j
-level-mid-other [] x y ys j ne = go (eqb j (length ys)) (λ t. lib.Dec.eqb→eq j (length ys) t)
-  where
-    go : (o : Bool) → (lib.Dec.T o → j ≡ length ys) → choose o (some x) (at-level ys j) ≡ choose o (some y) (at-level ys j)
-    go true h = absurd (ne (h tt))
-    go false h = refl
-level-mid-other (z ∷ xs) x y ys j ne =
-    ap (λ k. choose (eqb j k) (some z) (at-level (xs ++ (x ∷ ys)) j)) (mid-length xs x y ys) ∙ ap
-    (λ k. choose (eqb j (length (xs ++ (y ∷ ys)))) (some z) k) (level-mid-other xs x y ys j ne)
-
-abbrev pub with-gone : Entry → Bool → Entry
-with-gone e g = record { at = e .at; gone = g; kind = e .kind }
-
-places-mid : (N1 : List Entry) (e : Entry) (g : Bool) (N2 : List Entry) → places (N1 ++ (with-gone e g ∷ N2)) ≡ places (N1 ++ (e ∷ N2))
-places-mid [] e g N2 = refl
-places-mid (d ∷ N1) e g N2 = ap (λ z. d .at ∷ z) (places-mid N1 e g N2)
-
-pub kinds-mid : (N1 : List Entry) (e : Entry) (g : Bool) (N2 : List Entry) → kinds (N1 ++ (with-gone e g ∷ N2)) ≡ kinds (N1 ++ (e ∷ N2))
-kinds-mid [] e g N2 = refl
-kinds-mid (d ∷ N1) e g N2 = ap (λ z. d .kind ∷ z) (kinds-mid N1 e g N2)
-
-places-two : (N1 : List Entry) (e : Entry) (N2 : List Entry) → at-level (places (N1 ++ (e ∷ N2))) (length N2) ≡ some (e .at)
-places-two N1 e N2 = subst (λ z. at-level (places (N1 ++ (e ∷ N2))) z ≡ some (e .at)) (places-length N2) (go N1)
-  where
-    split : (M : List Entry) → places (M ++ (e ∷ N2)) ≡ places M ++ (e .at ∷ places N2)
-    split [] = refl
-    split (x ∷ M) = ap (λ z. x .at ∷ z) (split M)
-
-    go : (M : List Entry) → at-level (places (M ++ (e ∷ N2))) (length (places N2)) ≡ some (e .at)
-    go M = ap (λ z. at-level z (length (places N2))) (split M) ∙ level-mid (places M) (e .at) (places N2)
-
-sum-mid : (f : ℕ → ℕ → ℕ) (N1 : List Entry) (T1 : List Tree) (e : Entry) (N2 : List Entry) (x : Tree) (T2 : List Tree) → length N1 ≡ length T1
-    → stack-sum f (N1 ++ (e ∷ N2)) (T1 ++ (x ∷ T2)) ≡ stack-sum f N1 T1 + (place-sum f (e .at) + (tree-sum f x + stack-sum f N2 T2))
-sum-mid f [] [] e N2 x T2 h = omega arith
-sum-mid f [] (y ∷ T1) e N2 x T2 h = absurd (omega arith)
-sum-mid f (d ∷ N1) [] e N2 x T2 h = absurd (omega arith)
-sum-mid f (d ∷ N1) (y ∷ T1) e N2 x T2 h = let k = sum-mid f N1 T1 e N2 x T2 (omega arith) in omega arith
 
 -- a reference into that owner, or elsewhere, after the value is replaced
 module _ (ds : List Data) (r : ℕ) (q : Path) (tr y : Tree) (ex : Entry) (ex-at : ex .at ≡ rooted r 0) (gone2 : Bool) (N2 : List Entry)

@@ -14,8 +14,10 @@ use Rattle.soundness.specs.Borrows.{Addr, Kind, own, borrow, inert, at-level, 
 use Rattle.soundness.specs.Invariant.{Place, rooted, in-flight, Entry, kinds, places, Valid-ref, Entry-ok, Entries-ok, place-sum, stack-sum, of-size, is-box, Invariant}
 use Rattle.soundness.proofs.Basics.{some-is}
 use Rattle.soundness.proofs.memory.Paths.{mark}
-use Rattle.soundness.proofs.invariant.Top.{sum-push, at-push, at-last, Elsewhere, stored-else, entry-ok-else, entries-ok-else, with-root, no-size, sum-high}
-use Rattle.soundness.proofs.invariant.Replace.{level-mid, level-mid-other}
+use Rattle.soundness.proofs.memory.Roots.{sum-push, at-push, at-last, no-size, sum-high}
+use Rattle.soundness.proofs.invariant.Elsewhere.{Elsewhere, stored-else, entry-ok-else, entries-ok-else}
+use Rattle.soundness.proofs.invariant.Top.{with-root}
+use Rattle.soundness.proofs.invariant.Middle.{level-mid, level-mid-other}
 
 split-places : (N1 : List Entry) (e : Entry) (N2 : List Entry) → places (N1 ++ (e ∷ N2)) ≡ places N1 ++ (e .at ∷ places N2)
 split-places [] e N2 = refl

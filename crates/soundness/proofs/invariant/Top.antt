@@ -4,145 +4,24 @@ use mathlib.Core.List.{List, [], _∷_, _++_}
 use mathlib.Core.Logic.{inl, inr}
 use mathlib.Core.Option.{Option, some, none}
 use mathlib.Core.Path.{_≡_, refl, sym, _∙_, ap, subst}
-use Prim.Native.Nat.{ℕ, zero, suc, _+_, _≤_, _<_, _-_}
+use Prim.Native.Nat.{ℕ, suc, _+_, _≤_, _-_}
 use native.Mathlib.Omega.{arith}
-use lib.Dec.{eqb, T, eqb→eq, eqb-refl, eqb·zero-suc}
+use lib.Dec.{T}
 use lib.ListN.{length}
-use Rattle.language.specs.Base.{choose, from-option, if-some, at-place, set-at, Lexeme}
-use Rattle.language.specs.Syntax.{Ty, int, dat, box, ref, mut, Data, Prog}
-use Rattle.language.specs.Checks.{owned, size}
-use Rattle.language.specs.Meaning.{Value, Root, State, here, read-at, hole, Class, with-roots, with-classes, adds-root, kill, ends-box, count-out}
+use Rattle.language.specs.Base.{choose, from-option, if-some, at-place, set-at}
+use Rattle.language.specs.Syntax.{Ty, int, Data, Prog}
+use Rattle.language.specs.Meaning.{Value, Root, State, here, read-at, hole, with-roots, adds-root, kill, ends-box}
 use Rattle.language.specs.Meaning as me
 use Rattle.language.specs.Says.{boxes}
-use Rattle.soundness.specs.Trees.{Tree, int-t, con-t, box-t, hole-t, Trees, nil-t, cons-t, flat, flats, tree-sum, trees-sum, Stored, Stored-all, words-in, Typed, Typed-all}
-use Rattle.soundness.specs.Borrows.{Kind, own, borrow, inert, Well-borrowed}
-use Rattle.soundness.specs.Invariant.{Place, rooted, in-flight, Entry, kinds, Holds, Content, Idle, Entry-ok, Entries-ok, place-sum, stack-sum, live-sum, in-use-of, of-size, is-box, Invariant}
-use Rattle.soundness.specs.Frames.{Kind-fits, Value-entry, Dropping, owned-entry}
-use Rattle.soundness.proofs.Basics.{no-some, some-is}
-use Rattle.soundness.proofs.memory.Paths.{at-put-other, mark, mark-self, mark-apart}
-use Rattle.soundness.proofs.loans.Stack.{push-own, push-inert, pop-borrows}
-
--- typed trees are of owned types; box sizes aren't 0
-pub typed-owned : (ds : List Data) (x : Tree) (t : Ty) → Typed ds x t → owned t ≡ true
-typed-owned ds (int-t k) int h = refl
-typed-owned ds (int-t k) (dat d) h = refl
-typed-owned ds (int-t k) (box t) h = absurd h
-typed-owned ds (int-t k) (ref t) h = absurd h
-typed-owned ds (int-t k) (mut t) h = absurd h
-typed-owned ds (con-t k ts) int h = refl
-typed-owned ds (con-t k ts) (dat d) h = refl
-typed-owned ds (con-t k ts) (box t) h = absurd h
-typed-owned ds (con-t k ts) (ref t) h = absurd h
-typed-owned ds (con-t k ts) (mut t) h = absurd h
-typed-owned ds (box-t r w t) int h = refl
-typed-owned ds (box-t r w t) (dat d) h = refl
-typed-owned ds (box-t r w t) (box u) h = typed-owned ds t u (h .1)
-typed-owned ds (box-t r w t) (ref u) h = absurd h
-typed-owned ds (box-t r w t) (mut u) h = absurd h
-typed-owned ds hole-t t h = absurd h
-
-size-pos : (k : ℕ) (ds : List Data) (t : Ty) → 1 ≤ from-option (size k ds t) 1 (λ z. z)
-size-pos zero ds t = omega arith
-size-pos (suc k) ds int = omega arith
-size-pos (suc k) ds (dat d) = go (Rattle.language.specs.Checks.data-named ds d)
-  where
-    go2 : (o : Option ℕ) → 1 ≤ from-option (if-some o (λ m. some (1 + m))) 1 (λ z. z)
-    go2 none = omega arith
-    go2 (some m) = omega arith
-
-    go : (o : Option Data) → 1 ≤ from-option
-        (if-some o (λ x. if-some (Rattle.language.specs.Checks.size-ctors k ds (x .ctors)) (λ m. some (1 + m)))) 1 (λ z. z)
-    go none = omega arith
-    go (some x) = go2 (Rattle.language.specs.Checks.size-ctors k ds (x .ctors))
-size-pos (suc k) ds (box t) = omega arith
-size-pos (suc k) ds (ref t) = omega arith
-size-pos (suc k) ds (mut t) = omega arith
-
-pub words-pos : (ds : List Data) (t : Ty) → 1 ≤ words-in ds t
-words-pos ds t = size-pos (Rattle.language.specs.Checks.deep ds) ds t
-
-sum-kill : (f : ℕ → ℕ → ℕ) (i : ℕ) (rs : List Root) (r : ℕ) (v : Value) (w : ℕ) → at-place rs r ≡ some (record { live = true; val = v; words = w })
-    → live-sum f i (set-at rs r (record { live = false; val = hole; words = w })) + f (r + i) w ≡ live-sum f i rs
-sum-kill f i [] r v w e = absurd (no-some e)
-sum-kill f i (x ∷ rs) zero v w e =
-    let h : x ≡ record { live = true; val = v; words = w } = some-is e in
-    let k : choose (x .live) (f i (x .words)) 0 ≡ f i w = ap (λ z. choose (z .live) (f i (z .words)) 0) h in
-    let k2 : f (0 + i) w ≡ f i w = ap (λ z. f z w) (omega arith) in omega arith
-sum-kill f i (x ∷ rs) (suc r) v w e =
-    let h = sum-kill f (suc i) rs r v w e in let k : f (suc r + i) w ≡ f (r + suc i) w = ap (λ z. f z w) (omega arith) in omega arith
-
-sum-low : (r i : ℕ) (rs : List Root) → r < i → live-sum (mark r) i rs ≡ 0
-sum-low r i [] h = refl
-sum-low r i (x ∷ rs) h =
-    let k = sum-low r (suc i) rs (omega arith) in
-    let m : choose (x .live) (mark r i (x .words)) 0 ≡ 0 = go (x .live) (eqb i r) (λ t. eqb→eq i r t) in omega arith
-  where
-    go : (a z : Bool) → (T z → i ≡ r) → _≡_ {A = ℕ} (choose a (choose z 1 0) 0) 0
-    go true true e = absurd (let k = e tt in omega arith)
-    go true false e = refl
-    go false z e = refl
-
-pub sum-once : (r i : ℕ) (rs : List Root) → live-sum (mark r) i rs ≤ 1
-sum-once r i [] = omega arith
-sum-once r i (x ∷ rs) = let h = sum-once r (suc i) rs in go (x .live) (eqb i r) (λ t. eqb→eq i r t) h (λ lt. sum-low r (suc i) rs lt)
-  where
-    go : (a z : Bool) → (T z → i ≡ r) → live-sum (mark r) (suc i) rs ≤ 1 → (r < suc i → live-sum (mark r) (suc i) rs ≡ 0)
-        → choose a (choose z 1 0) 0 + live-sum (mark r) (suc i) rs ≤ 1
-    go true true e h k = let eq = e tt in let m = k (omega arith) in omega arith
-    go true false e h k = omega arith
-    go false z e h k = omega arith
-
-pub sum-push : (f : ℕ → ℕ → ℕ) (i : ℕ) (rs : List Root) (v : Value) (w : ℕ)
-    → live-sum f i (rs ++ (record { live = true; val = v; words = w } ∷ [])) ≡ live-sum f i rs + f (length rs + i) w
-sum-push f i [] v w = let k : f (0 + i) w ≡ f i w = ap (λ z. f z w) (omega arith) in omega arith
-sum-push f i (x ∷ rs) v w =
-    let h = sum-push f (suc i) rs v w in let k : f (suc (length rs) + i) w ≡ f (length rs + suc i) w = ap (λ z. f z w) (omega arith) in omega arith
-
-pub at-push : (rs : List Root) (x : Root) (r : ℕ) (y : Root) → at-place rs r ≡ some y → at-place (rs ++ (x ∷ [])) r ≡ some y
-at-push [] x r y e = absurd (no-some e)
-at-push (z ∷ rs) x zero y e = e
-at-push (z ∷ rs) x (suc r) y e = at-push rs x r y e
-
-pub at-last : (rs : List Root) (x : Root) → at-place (rs ++ (x ∷ [])) (length rs) ≡ some x
-at-last [] x = refl
-at-last (z ∷ rs) x = at-last rs x
-
-abbrev pub Elsewhere : List Root → List Root → ℕ → Type 0
-Elsewhere rs rs2 r = (j : ℕ) → (r ≡ j → ⊥) → (x : Root) → at-place rs j ≡ some x → at-place rs2 j ≡ some x
-
-mutual
-  pub stored-else : (rs rs2 : List Root) (r : ℕ) (t : Tree) → Elsewhere rs rs2 r → tree-sum (mark r) t ≡ 0 → Stored rs t → Stored rs2 t
-  stored-else rs rs2 r (int-t k) el h s = tt
-  stored-else rs rs2 r (con-t k ts) el h s = storeds-else rs rs2 r ts el h s
-  stored-else rs rs2 r (box-t i w t) el h s =
-      (el i (mark-apart r i w (omega arith)) (record { live = true; val = flat t; words = w }) (s .0), stored-else rs rs2 r t el (omega arith) (s .1))
-  stored-else rs rs2 r hole-t el h s = tt
-
-  storeds-else : (rs rs2 : List Root) (r : ℕ) (ts : Trees) → Elsewhere rs rs2 r → trees-sum (mark r) ts ≡ 0 → Stored-all rs ts → Stored-all rs2 ts
-  storeds-else rs rs2 r nil-t el h s = tt
-  storeds-else rs rs2 r (cons-t t ts) el h s = (stored-else rs rs2 r t el (omega arith) (s .0), storeds-else rs rs2 r ts el (omega arith) (s .1))
-
-holds-else : (rs rs2 : List Root) (r : ℕ) (at : Place) (v : Value) → Elsewhere rs rs2 r → place-sum (mark r) at ≡ 0 → Holds rs at v → Holds rs2 at v
-holds-else rs rs2 r (rooted i w) v el h s = el i (mark-apart r i w h) (record { live = true; val = v; words = w }) s
-holds-else rs rs2 r (in-flight u) v el h s = s
-
-pub entry-ok-else : (ds : List Data) (rs rs2 : List Root) (r : ℕ) (at : Place) (gone : Bool) (s : Kind) (x : Tree) (N : List Entry) (T : List Tree)
-    → Elsewhere rs rs2 r → place-sum (mark r) at ≡ 0 → tree-sum (mark r) x ≡ 0 → Entry-ok ds rs at gone s x N T → Entry-ok ds rs2 at gone s x N T
-entry-ok-else ds rs rs2 r at gone (own t) x N T el h k f =
-    (holds-else rs rs2 r at (flat x) el h (f .0), stored-else rs rs2 r x el k (f .1), f .2, f .3)
-entry-ok-else ds rs rs2 r at gone (borrow al t a ls) x N T el h k f = (f .0, (f .1 .0, holds-else rs rs2 r at (f .1 .0) el h (f .1 .1), f .1 .2))
-entry-ok-else ds rs rs2 r at gone inert x N T el h k f = (f .0, (f .1 .0, holds-else rs rs2 r at (f .1 .0) el h (f .1 .1), f .1 .2))
-
-pub entries-ok-else : (ds : List Data) (rs rs2 : List Root) (r : ℕ) (N : List Entry) (T : List Tree) → Elsewhere rs rs2 r → stack-sum (mark r) N T ≡ 0
-    → Entries-ok ds rs N T → Entries-ok ds rs2 N T
-entries-ok-else ds rs rs2 r [] [] el h f = tt
-entries-ok-else ds rs rs2 r [] (x ∷ T) el h f = f
-entries-ok-else ds rs rs2 r (e ∷ N) [] el h f = f
-entries-ok-else ds rs rs2 r (e ∷ N) (x ∷ T) el h f = (
-  entry-ok-else ds rs rs2 r (e .at) (e .gone) (e .kind) x N T el (omega arith) (omega arith) (f .0),
-  entries-ok-else ds rs rs2 r N T el
-      (omega arith) (f .1),
-)
+use Rattle.soundness.specs.Trees.{Tree, int-t, con-t, box-t, hole-t, Trees, nil-t, cons-t, flat, tree-sum, Stored, Stored-all, Typed}
+use Rattle.soundness.specs.Borrows.{Kind, own, borrow, inert}
+use Rattle.soundness.specs.Invariant.{Place, rooted, in-flight, Entry, kinds, Holds, Content, Entry-ok, Entries-ok, place-sum, stack-sum, live-sum, in-use-of, of-size, is-box, Invariant}
+use Rattle.soundness.specs.Frames.{Kind-fits, Value-entry, owned-entry}
+use Rattle.soundness.proofs.memory.Paths.{mark, mark-self}
+use Rattle.soundness.proofs.loans.Free.{push-own, pop-borrows}
+use Rattle.soundness.proofs.memory.Sizes.{typed-owned}
+use Rattle.soundness.proofs.memory.Roots.{sum-once, kill-roots, sum-kill, sum-push, no-size, at-push, at-last}
+use Rattle.soundness.proofs.invariant.Elsewhere.{entries-ok-else, rest-else, stored-else}
 
 -- only the roots and classes matter
 pub invariant-same : (ds : List Data) (N : List Entry) (T : List Tree) (s t : State) → s .roots ≡ t .roots → s .classes ≡ t .classes
@@ -157,17 +36,8 @@ invariant-same ds N T s t e f w = record {
   };
 }
 
--- a root that ends: r, that stands at the top; what's there stays in flight
-kill-roots : (s : State) (r : ℕ) (x : Root) → at-place (s .roots) r ≡ some x
-    → kill s r ≡ with-roots s (set-at (s .roots) r (record { live = false; val = hole; words = x .words }))
-kill-roots s r x e = ap (λ o. from-option o s (λ y. with-roots s (set-at (s .roots) r (record { live = false; val = hole; words = y .words })))) e
-
 pub once-in : (ds : List Data) (N : List Entry) (T : List Tree) (s : State) (r : ℕ) → Invariant ds N T s → stack-sum (mark r) N T ≤ 1
 once-in ds N T s r w = let h = w .sums (mark r) in let k = sum-once r 0 (s .roots) in omega arith
-
--- the rest of a stack whose top stands in root r, when r's root is changed
-rest-else : (rs : List Root) (r : ℕ) (y : Root) → Elsewhere rs (set-at rs r y) r
-rest-else rs r y j ne x e = at-put-other rs r j y ne ∙ e
 
 -- the same entry, in flight; with a root
 abbrev pub unrooted : Entry → Value → Entry
@@ -185,9 +55,6 @@ killed-entry ds rs r y gone (borrow al t a ls) x N T v z e f =
     let same-v : f .1 .0 ≡ v = ap (λ o. from-option o hole (λ q. q .val)) (sym (f .1 .1) ∙ e) in (f .0, (f .1 .0, sym same-v, f .1 .2))
 killed-entry ds rs r y gone inert x N T v z e f =
     let same-v : f .1 .0 ≡ v = ap (λ o. from-option o hole (λ q. q .val)) (sym (f .1 .1) ∙ e) in (f .0, (f .1 .0, sym same-v, f .1 .2))
-
-pub no-size : (k i : ℕ) → of-size (suc k) i 0 ≡ 0
-no-size k i = ap {B = ℕ} (λ z. choose z 1 0) (eqb·zero-suc k)
 
 pub kill-top : (ds : List Data) (e : Entry) (N : List Entry) (x : Tree) (T : List Tree) (s : State) (r : ℕ) (v : Value) → e .at ≡ rooted r 0
     → at-place (s .roots) r ≡ some (record { live = true; val = v; words = 0 }) → Invariant ds (e ∷ N) (x ∷ T) s
@@ -288,185 +155,6 @@ pop-top ds e N x T s v at-is z w = record {
   counted = w .counted;
 }
 
-abbrev pub owned-entries : Trees → List Ty → List Entry
-owned-entries nil-t ts = []
-owned-entries (cons-t x xs) [] = []
-owned-entries (cons-t x xs) (t ∷ ts) = owned-entry x t ∷ owned-entries xs ts
-
-abbrev pub trees-of : Trees → List Tree
-trees-of nil-t = []
-trees-of (cons-t x xs) = x ∷ trees-of xs
-
-pub parts-borrows : (ds : List Data) (xs : Trees) (ts : List Ty) (N : List Entry) → Well-borrowed (kinds N)
-    → Well-borrowed (kinds (owned-entries xs ts ++ N))
-parts-borrows ds nil-t ts N h = h
-parts-borrows ds (cons-t x xs) [] N h = h
-parts-borrows ds (cons-t x xs) (t ∷ ts) N h = push-own (kinds (owned-entries xs ts ++ N)) (parts-borrows ds xs ts N h) t
-
-parts-entries : (ds : List Data) (rs : List Root) (xs : Trees) (ts : List Ty) (N : List Entry) (T : List Tree) → Typed-all ds xs ts → Stored-all rs xs
-    → Entries-ok ds rs N T → Entries-ok ds rs (owned-entries xs ts ++ N) (trees-of xs ++ T)
-parts-entries ds rs nil-t [] N T ty st f = f
-parts-entries ds rs nil-t (t ∷ ts) N T ty st f = absurd ty
-parts-entries ds rs (cons-t x xs) [] N T ty st f = absurd ty
-parts-entries ds rs (cons-t x xs) (t ∷ ts) N T ty st f =
-    ((refl, st .0, typed-owned ds x t (ty .0), inl (ty .0)), parts-entries ds rs xs ts N T (ty .1) (st .1) f)
-
-pub parts-sum : (ds : List Data) (f : ℕ → ℕ → ℕ) (xs : Trees) (ts : List Ty) (N : List Entry) (T : List Tree) → Typed-all ds xs ts
-    → stack-sum f (owned-entries xs ts ++ N) (trees-of xs ++ T) ≡ trees-sum f xs + stack-sum f N T
-parts-sum ds f nil-t [] N T ty = omega arith
-parts-sum ds f nil-t (t ∷ ts) N T ty = absurd ty
-parts-sum ds f (cons-t x xs) [] N T ty = absurd ty
-parts-sum ds f (cons-t x xs) (t ∷ ts) N T ty = let h = parts-sum ds f xs ts N T (ty .1) in omega arith
-
-pub parts-dropping : (ds : List Data) (xs : Trees) (ts : List Ty) → Typed-all ds xs ts → Dropping (flats xs) (owned-entries xs ts)
-parts-dropping ds nil-t [] ty = tt
-parts-dropping ds nil-t (t ∷ ts) ty = absurd ty
-parts-dropping ds (cons-t x xs) [] ty = absurd ty
-parts-dropping ds (cons-t x xs) (t ∷ ts) ty = (refl, parts-dropping ds xs ts (ty .1))
-
--- a constructor in flight comes apart
-pub open-con : (ds : List Data) (e : Entry) (N : List Entry) (k : Lexeme) (xs : Trees) (ts : List Ty) (T : List Tree) (s : State) (v : Value)
-    → e .at ≡ in-flight v → Stored-all (s .roots) xs → Typed-all ds xs ts → Invariant ds (e ∷ N) (con-t k xs ∷ T) s
-    → Invariant ds (owned-entries xs ts ++ N) (trees-of xs ++ T) s
-open-con ds e N k xs ts T s v at-is st ty w = record {
-  borrows = parts-borrows ds xs ts N (pop-borrows (e .kind) (kinds N) (w .borrows));
-  entries = parts-entries ds (s .roots) xs ts N T ty st (w .entries .1);
-  sums = λ f. (let a = w .sums f in let a2 : place-sum f (e .at) ≡ 0 = ap (place-sum f) at-is in let a3 = parts-sum ds f xs ts N T ty in omega arith);
-  counted = w .counted;
-}
-
--- a box in flight: what's in it in flight, above the box that's to end
-abbrev pub shell : ℕ → ℕ → Entry
-shell r w = record { at = rooted r w; gone = false; kind = inert }
-
-idle-box : (r w : ℕ) (v : Value) → 1 ≤ w → Idle (rooted r w) v
-idle-box r zero v h = absurd (omega arith)
-idle-box r (suc w) v h = tt
-
-pub open-box : (ds : List Data) (e : Entry) (N : List Entry) (r w : ℕ) (x : Tree) (t : Ty) (T : List Tree) (s : State) (v : Value)
-    → e .at ≡ in-flight v → 1 ≤ w → Stored (s .roots) (box-t r w x) → Typed ds x t → Invariant ds (e ∷ N) (box-t r w x ∷ T) s
-    → Invariant ds (owned-entry x t ∷ (shell r w ∷ N)) (x ∷ (hole-t ∷ T)) s
-open-box ds e N r w x t T s v at-is le st ty wo = record {
-  borrows = push-own (inert ∷ kinds N) (push-inert (kinds N) (pop-borrows (e .kind) (kinds N) (wo .borrows))) t;
-  entries = ((refl, st .1, typed-owned ds x t ty, inl ty), ((refl, (flat x, st .0, idle-box r w (flat x) le)), wo .entries .1));
-  sums = λ f. (let a = wo .sums f in let a2 : place-sum f (e .at) ≡ 0 = ap (place-sum f) at-is in omega arith);
-  counted = wo .counted;
-}
-
--- classes
-in-use-out : (cs : List Class) (k j : ℕ) → (k ≡ j → ⊥) → in-use-of (count-out cs k) j ≡ in-use-of cs j
-in-use-out [] k j ne = refl
-in-use-out (x ∷ xs) k j ne = go (eqb (x .words) k) (λ t. eqb→eq (x .words) k t) (in-use-out xs k j ne)
-  where
-    off : (z : Bool) → (T z → k ≡ j) → choose z (x .in-use - 1) (in-use-of xs j) ≡ in-use-of xs j
-    off true h = absurd (ne (h tt))
-    off false h = refl
-
-    go : (z : Bool) → (T z → x .words ≡ k) → in-use-of (count-out xs k) j ≡ in-use-of xs j
-        → in-use-of (choose z (record { words = k; in-use = x .in-use - 1; peak = x .peak } ∷ xs) (x ∷ count-out xs k)) j ≡ in-use-of (x ∷ xs) j
-    go true h ih = off (eqb k j) (λ t. eqb→eq k j t) ∙ sym (off2 (eqb (x .words) j) (λ t. sym (h tt) ∙ eqb→eq (x .words) j t))
-      where
-        off2 : (z : Bool) → (T z → k ≡ j) → choose z (x .in-use) (in-use-of xs j) ≡ in-use-of xs j
-        off2 true h = absurd (ne (h tt))
-        off2 false h = refl
-    go false h ih = ap (λ z. choose (eqb (x .words) j) (x .in-use) z) ih
-
-in-use-out-same : (cs : List Class) (k : ℕ) → 1 ≤ in-use-of cs k → suc (in-use-of (count-out cs k) k) ≡ in-use-of cs k
-in-use-out-same [] k h = absurd (omega arith)
-in-use-out-same (x ∷ xs) k h = go (eqb (x .words) k) h (in-use-out-same xs k) refl
-  where
-    self : (z : Bool) → T z → (a d : ℕ) → choose z a d ≡ a
-    self true t a d = refl
-    self false t a d = absurd t
-
-    go : (z : Bool) → 1 ≤ choose z (x .in-use) (in-use-of xs k) → (1 ≤ in-use-of xs k → suc (in-use-of (count-out xs k) k) ≡ in-use-of xs k)
-        → eqb (x .words) k ≡ z → suc (in-use-of (choose z (record { words = k; in-use = x .in-use - 1; peak = x .peak } ∷ xs)
-        (x ∷ count-out xs k)) k) ≡ choose z (x .in-use) (in-use-of xs k)
-    go true h1 ih e = let a = self (eqb k k) (eqb-refl k) (x .in-use - 1) (in-use-of xs k) in omega arith
-    go false h1 ih e =
-        let a = ih h1 in
-        let a2 : choose (eqb (x .words) k) (x .in-use) (in-use-of (count-out xs k) k) ≡ in-use-of (count-out xs k) k = ap
-        (λ z. choose z (x .in-use) (in-use-of (count-out xs k) k)) e in omega arith
-
-boxes-out : (cs : List Class) (k : ℕ) → 1 ≤ in-use-of cs k → suc (boxes (count-out cs k)) ≡ boxes cs
-boxes-out [] k h = absurd (omega arith)
-boxes-out (x ∷ xs) k h = go (eqb (x .words) k) h (boxes-out xs k)
-  where
-    go : (z : Bool) → 1 ≤ choose z (x .in-use) (in-use-of xs k) → (1 ≤ in-use-of xs k → suc (boxes (count-out xs k)) ≡ boxes xs)
-        → suc (boxes (choose z (record { words = k; in-use = x .in-use - 1; peak = x .peak } ∷ xs) (x ∷ count-out xs k))) ≡ x .in-use + boxes xs
-    go true h1 ih = omega arith
-    go false h1 ih = let a = ih h1 in omega arith
-
--- the box at the top ends
-pub end-box-top : (ds : List Data) (N : List Entry) (r w : ℕ) (T : List Tree) (s : State) → 1 ≤ w → Invariant ds (shell r w ∷ N) T s
-    → (U : List Tree) × Invariant ds N U (ends-box s r)
-end-box-top ds N r zero T s le wo = absurd (omega arith)
-end-box-top ds N r (suc w) [] s le wo = absurd (wo .entries)
-end-box-top ds N r (suc w) (x ∷ T) s le wo = (
-  T,
-  subst (Invariant ds N T) (sym ended) (record {
-    borrows = pop-borrows inert (kinds N) (wo .borrows);
-    entries = entries-ok-else ds (s .roots) (set-at (s .roots) r y) r N T (rest-else (s .roots) r y) none-else (wo .entries .1);
-    sums =
-        λ f. (let a = wo .sums f in let a1 : tree-sum f x ≡ 0 = ap (tree-sum f) (wo .entries .0 .0) in let k = sum-kill f 0 (s .roots) r v
-        (suc w) r-is in let k2 : f (r + 0) (suc w) ≡ f r (suc w) = ap (λ z. f z (suc w)) (omega arith) in omega arith);
-    counted = record {
-      by-size = λ k. sized k (eqb (suc w) (suc k)) refl;
-      in-all =
-          (let a = wo .counted .in-all in let b1 = sum-kill is-box 0 (s .roots) r v (suc w) r-is in let b2 = boxes-out (s .classes) (suc w) enough in
-          let b3 : is-box (r + 0) (suc w) ≡ 1 = ap {B = ℕ} (λ z. choose z 0 1) (lib.Dec.eqb·suc-zero w) in omega arith);
-    };
-  }),
-)
-  where
-    v : Value
-    v = wo .entries .0 .1 .0
-
-    r-is : at-place (s .roots) r ≡ some (record { live = true; val = v; words = suc w })
-    r-is = wo .entries .0 .1 .1
-
-    y : Root
-    y = record { live = false; val = hole; words = suc w }
-
-    ended : ends-box s r ≡ with-classes (with-roots s (set-at (s .roots) r y)) (count-out (s .classes) (suc w))
-    ended =
-        ap (λ o. from-option o s (λ z. with-classes (kill s r) (count-out (s .classes) (z .words)))) r-is ∙ ap
-        (λ z. with-classes z (count-out (s .classes) (suc w))) (kill-roots s r (record { live = true; val = v; words = suc w }) r-is)
-
-    none-else : stack-sum (mark r) N T ≡ 0
-    none-else = let a = once-in ds (shell r (suc w) ∷ N) (x ∷ T) s r wo in let a3 = mark-self r (suc w) in omega arith
-
-    size-self : (k : ℕ) → of-size k (r + 0) k ≡ 1
-    size-self k = go (eqb k k) (eqb-refl k)
-      where
-        go : (z : Bool) → lib.Dec.T z → _≡_ {A = ℕ} (choose z 1 0) 1
-        go true t = refl
-        go false t = absurd t
-
-    enough : 1 ≤ in-use-of (s .classes) (suc w)
-    enough =
-        let a = wo .counted .by-size w in
-        let b1 = sum-kill (of-size (suc w)) 0 (s .roots) r v (suc w) r-is in let b2 = size-self (suc w) in omega arith
-
-    sized : (k : ℕ) (z : Bool) → eqb (suc w) (suc k) ≡ z
-        → in-use-of (count-out (s .classes) (suc w)) (suc k) ≡ live-sum (of-size (suc k)) 0 (set-at (s .roots) r y)
-    sized k true e =
-        let w-is : suc w ≡ suc k = eqb→eq (suc w) (suc k) (subst lib.Dec.T (sym e) tt) in
-        let a = wo .counted .by-size k in
-        let b1 = sum-kill (of-size (suc k)) 0 (s .roots) r v (suc w) r-is in
-        let b2 : of-size (suc k) (r + 0) (suc w) ≡ 1 = ap {B = ℕ} (λ z. choose z 1 0) e in
-        let b3 : suc (in-use-of (count-out (s .classes) (suc w)) (suc k)) ≡ in-use-of (s .classes) (suc k) = subst
-        (λ z. suc (in-use-of (count-out (s .classes) (suc w)) z) ≡ in-use-of (s .classes) z) w-is (in-use-out-same (s .classes) (suc w) enough) in
-        omega arith
-    sized k false e =
-        let a = wo .counted .by-size k in
-        let b1 = sum-kill (of-size (suc k)) 0 (s .roots) r v (suc w) r-is in
-        let b2 : of-size (suc k) (r + 0) (suc w) ≡ 0 = ap {B = ℕ} (λ z. choose z 1 0) e in
-        let ne : suc w ≡ suc k → ⊥ = λ q. (let z1 : lib.Dec.T (eqb (suc w) (suc k)) = subst (λ z. lib.Dec.T (eqb (suc w) z)) q (eqb-refl (suc w)) in
-        subst lib.Dec.T e z1) in
-        let b3 = in-use-out (s .classes) (suc w) (suc k) ne in
-        omega arith
-
 -- the top's kind, by its tree
 pub retype-top : (ds : List Data) (e : Entry) (N : List Entry) (x : Tree) (T : List Tree) (s : State) (v : Value) (t : Ty) → e .at ≡ in-flight v
     → Stored (s .roots) x → Typed ds x t → Invariant ds (e ∷ N) (x ∷ T) s → Invariant ds (owned-entry x t ∷ N) (x ∷ T) s
@@ -476,17 +164,6 @@ retype-top ds e N x T s v t at-is st ty w = record {
   sums = λ f. (let a = w .sums f in let a2 : place-sum f (e .at) ≡ 0 = ap (place-sum f) at-is in omega arith);
   counted = w .counted;
 }
-
-pub sum-high : (r i : ℕ) (rs : List Root) → length rs + i ≤ r → live-sum (mark r) i rs ≡ 0
-sum-high r i [] h = refl
-sum-high r i (x ∷ rs) h =
-    let k = sum-high r (suc i) rs (omega arith) in
-    let m : choose (x .live) (mark r i (x .words)) 0 ≡ 0 = go (x .live) (eqb i r) (λ t. lib.Dec.eqb→eq i r t) in omega arith
-  where
-    go : (a z : Bool) → (lib.Dec.T z → i ≡ r) → _≡_ {A = ℕ} (choose a (choose z 1 0) 0) 0
-    go true true e = absurd (let k = e tt in omega arith)
-    go true false e = refl
-    go false z e = refl
 
 -- reading a root
 pub reads : (s : State) (r : ℕ) (v : Value) (w : ℕ) → at-place (s .roots) r ≡ some (record { live = true; val = v; words = w })

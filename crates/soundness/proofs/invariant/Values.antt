@@ -14,7 +14,7 @@ use Rattle.soundness.specs.Borrows.{Kind, own, borrow, inert}
 use Rattle.soundness.specs.Invariant.{in-flight, Entry, kinds, Content, Entry-ok, Invariant}
 use Rattle.soundness.specs.Frames.{Kind-fits, Value-entry, owned-entry}
 use Rattle.soundness.proofs.Basics.{true-false}
-use Rattle.soundness.proofs.loans.Stack.{push-own}
+use Rattle.soundness.proofs.loans.Free.{push-own}
 
 -- what's in flight, of an owned type
 pub owned-value : (ds : List Data) (rs : List Root) (e : Entry) (x : Tree) (N : List Entry) (T : List Tree) (v : Value) (t : Ty) → owned t ≡ true

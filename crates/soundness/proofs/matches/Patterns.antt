@@ -19,11 +19,13 @@ use Rattle.soundness.specs.Invariant.{rooted, Entry, kinds, places, Valid-ref,
 use Rattle.soundness.specs.Frames.{Loans-cover, Kind-fits, Scope}
 use Rattle.soundness.proofs.Basics.{no-some, some-is, if-some-is, only-is}
 use Rattle.soundness.proofs.memory.Paths.{loc-down-step, subtree-step, extend}
-use Rattle.soundness.proofs.loans.Stack.{level-below, level-push, Unobstructed, reborrow, unobstructed-push, siblings, owner-push}
+use Rattle.soundness.proofs.loans.Levels.{level-below, level-push, siblings}
+use Rattle.soundness.proofs.loans.Exclusivity.{Unobstructed, reborrow, unobstructed-push}
+use Rattle.soundness.proofs.loans.Free.{owner-push}
 use Rattle.soundness.proofs.invariant.Top.{with-root, root-top}
 use Rattle.soundness.proofs.invariant.Borrows.{borrow-entry, push-borrow}
 use Rattle.soundness.proofs.statics.Scopes.{fresh-none}
-use Rattle.soundness.proofs.frames.Names.{cover-push}
+use Rattle.soundness.proofs.frames.Levels.{cover-push}
 
 -- what's bound: xs by the rules on top of g, by the meaning on top of d, at the values vs
 pub record Bound (ds : List Data) (C : List Entry) (ln : List Level-loan) (g bound : ch.Env) (d : me.Env) (xs : List Lexeme) (vs : List Value)

@@ -19,7 +19,7 @@ use Rattle.soundness.specs.Invariant.{rooted, Entry, kinds, Entry-ok, Invarian
 use Rattle.soundness.specs.Frames.{name-level, Loans-cover, Kind-fits, Scope, Frame}
 use Rattle.soundness.specs.Preserved.{Scrutinee}
 use Rattle.soundness.proofs.Basics.{no-some, some-is, only-is, true-false}
-use Rattle.soundness.proofs.loans.Stack.{Unobstructed, unobstructed-free, unobstructed-readable}
+use Rattle.soundness.proofs.loans.Exclusivity.{Unobstructed, unobstructed-free, unobstructed-readable}
 use Rattle.soundness.proofs.invariant.Borrows.{anchored-at, owner-of}
 use Rattle.soundness.proofs.statics.Exprs.{look-name}
 use Rattle.soundness.proofs.statics.Rules.{there-is}

@@ -1,36 +1,32 @@
 -- The steps for matches: by-alt and by-shape, and the cases match of statements and of what is given.
-use mathlib.Core.Bool.{Bool, true, false, _&&_}
-use mathlib.Core.List.{List, [], _∷_, _++_}
-use mathlib.Core.Logic.{_⊎_, inl, inr}
+use mathlib.Core.Bool.{true, false, _&&_}
+use mathlib.Core.List.{List, [], _++_}
 use mathlib.Core.Option.{Option, some}
-use mathlib.Core.Path.{_≡_, refl, sym, _∙_, ap, subst}
+use mathlib.Core.Path.{_≡_, refl, sym, _∙_, subst}
 use Prim.Native.Nat.{ℕ, suc}
 use lib.ListN.{length}
 use Rattle.language.specs.Base.{from-option, Lexeme}
-use Rattle.language.specs.Syntax.{Ty, int, dat, box, ref, mut, Access, Alts, Arms, Data, Prog, take, view, edit, match-s, give-match, Ctor}
-use Rattle.language.specs.Checks.{Var, Matched, loan, look, outer, bind-all, looks-at, matched, data-of, covers, alt-names, arm-names}
+use Rattle.language.specs.Syntax.{Ty, Access, Alts, Arms, Prog, match-s, give-match, Ctor}
+use Rattle.language.specs.Checks.{outer, bind-all, looks-at, covers, alt-names, arm-names}
 use Rattle.language.specs.Checks as ch
-use Rattle.language.specs.Meaning.{Value, con-v, State, Limits, Shape, here, root-of, read-at, place-of, bodies, tails, exec, shape, roots-in, parts, find-alt}
+use Rattle.language.specs.Meaning.{Value, State, Limits, place-of, bodies, tails, exec, shape, roots-in, parts, find-alt}
 use Rattle.language.specs.Meaning as me
-use Rattle.soundness.specs.Trees.{Tree, int-t, con-t, box-t, hole-t, flat, flats, Typed}
-use Rattle.soundness.specs.Borrows.{Addr, Level-loan, Kind, own, borrow}
-use Rattle.soundness.specs.Invariant.{rooted, Entry, kinds, Content, Valid-ref, Entry-ok, Invariant}
-use Rattle.soundness.specs.Frames.{Kind-fits, Scope, Frame, Ref-params}
-use Rattle.soundness.specs.Preserved.{Safe, After-give, After-exec, Scrutinee, By-shape-ok, By-alt-ok, Preserved}
-use Rattle.soundness.proofs.Basics.{no-some, some-is, only-is, true-false, and-left, and-right}
-use Rattle.soundness.proofs.invariant.Top.{reads}
-use Rattle.soundness.proofs.invariant.Borrows.{anchored-at, valid-ref-read}
+use Rattle.soundness.specs.Trees.{Tree}
+use Rattle.soundness.specs.Borrows.{Level-loan}
+use Rattle.soundness.specs.Invariant.{Entry, Invariant}
+use Rattle.soundness.specs.Frames.{Scope, Frame, Ref-params}
+use Rattle.soundness.specs.Preserved.{Safe, After-give, After-exec, By-shape-ok, By-alt-ok, Preserved}
+use Rattle.soundness.proofs.Basics.{some-is, and-left, and-right}
 use Rattle.soundness.proofs.statics.Exprs.{Env-like}
-use Rattle.soundness.proofs.statics.Rules.{there-is}
 use Rattle.soundness.proofs.statics.Scopes.{Distinct, scope-distinct, like-distinct, grows-lent, bind-grows, looks-like}
 use Rattle.soundness.proofs.statics.Stmts.{Alt-found, alt-found}
 use Rattle.soundness.proofs.statics.Alternatives.{covered, found-alt, ChosenArm, from-is, chosen-arm}
-use Rattle.soundness.proofs.frames.Lookup.{Name-at, name-at}
 use Rattle.soundness.proofs.Safety.{safe-need, safe-weaken, after-weak}
 use Rattle.soundness.proofs.matches.Patterns.{Bound}
-use Rattle.soundness.proofs.matches.View.{place-con, Looked}
-use Rattle.soundness.proofs.matches.Scrutinee.{fits-dat, fits-ref, fits-mut, matched-is, data-of-is, looks}
-use Rattle.soundness.proofs.statics.Inversion.{match-rule}
+use Rattle.soundness.proofs.matches.View.{Looked}
+use Rattle.soundness.proofs.matches.Scrutinee.{looks}
+use Rattle.soundness.proofs.statics.StmtRules.{match-rule}
+use Rattle.soundness.proofs.matches.Found.{scrutinee-seen}
 
 -- the fields of one constructor, found twice
 same-ctor : (x y : Ctor) (o : Option Ctor) → o ≡ some x → o ≡ some y → x ≡ y
@@ -109,102 +105,6 @@ by-shape-suc q m u o h C ln g d F T s qs t w x v mm as₁ l (shape k vs) th la c
 
     lent2 : Ref-params qs (ca .bound)
     lent2 = grows-lent qs g (ca .bound) (record { newer = bg .0; older = mm .env; is = bg .1; like = lk2; distinct = bg .2 }) lp
-
--- what a rule lets be looked at: data, by its owner or by a reference
-aims : (q : Prog) (g : ch.Env) (v : Var) (mm : Matched) (z : Kind) (w : Access) (ty : Ty) → Kind-fits ty z → looks-at q g v w ty ≡ some mm
-    → (D : Lexeme) × ((z ≡ own (dat D)) ⊎ ((al : Bool) × (a : Addr) × (ls : List Level-loan) × (z ≡ borrow al (dat D) a ls)))
-aims q g v mm z take int su h = absurd (no-some h)
-aims q g v mm z take (dat D) su h = (D, inl (fits-dat D z su))
-aims q g v mm z take (box t) su h = absurd (no-some h)
-aims q g v mm z take (ref t) su h = absurd (no-some h)
-aims q g v mm z take (mut t) su h = absurd (no-some h)
-aims q g v mm z view int su h = absurd (no-some h)
-aims q g v mm z view (dat D) su h = (D, inl (fits-dat D z su))
-aims q g v mm z view (box t) su h = absurd (no-some h)
-aims q g v mm z view (ref t) su h =
-    let m = matched-is (data-of q t) (v .loans) g mm (only-is _ (matched (data-of q t) (v .loans) g) mm h .1) in
-    let D = data-of-is q t (mm .data1) (m .0) in
-    let y = fits-ref t z su in
-    (D .0, inr (false, y .0, y .1, y .2 ∙ ap (λ r. borrow false r (y .0) (y .1)) (D .1)))
-aims q g v mm z view (mut t) su h =
-    let m = matched-is (data-of q t) (loan (v .name) false ∷ []) g mm
-    (only-is _ (matched (data-of q t) (loan (v .name) false ∷ []) g) mm h .1) in
-    let D = data-of-is q t (mm .data1) (m .0) in
-    let y = fits-mut t z su in
-    (D .0, inr (true, y .0, y .1, y .2 ∙ ap (λ r. borrow true r (y .0) (y .1)) (D .1)))
-aims q g v mm z edit int su h = absurd (no-some h)
-aims q g v mm z edit (dat D) su h = (D, inl (fits-dat D z su))
-aims q g v mm z edit (box t) su h = absurd (no-some h)
-aims q g v mm z edit (ref t) su h = absurd (no-some h)
-aims q g v mm z edit (mut t) su h =
-    let m = matched-is (data-of q t) (loan (v .name) true ∷ []) g mm
-    (only-is _ (matched (data-of q t) (loan (v .name) true ∷ []) g) mm h .1) in
-    let D = data-of-is q t (mm .data1) (m .0) in
-    let y = fits-mut t z su in
-    (D .0, inr (true, y .0, y .1, y .2 ∙ ap (λ r. borrow true r (y .0) (y .1)) (D .1)))
-
--- the run finds what is looked at
-abbrev pub Scrutinee-seen : me.Env → Lexeme → State → Type 0
-Scrutinee-seen d x s = (r : ℕ) × (v : Value) × (y : Shape) × Scrutinee d x (place-of r v) y s × (root-of d x ≡ some r) × (read-at s (here r) ≡ some v)
-
-con-seen : (ds : List Data) (d : me.Env) (x : Lexeme) (s : State) (r : ℕ) (v : Value) (part : Tree) (D : Lexeme) → Typed ds part (dat D)
-    → root-of d x ≡ some r → read-at s (here r) ≡ some v → read-at s (place-of r v) ≡ some (flat part) → Scrutinee-seen d x s
-con-seen ds d x s r v (int-t j) D ty nm rd se = absurd ty
-con-seen ds d x s r v (con-t k ts) D ty nm rd se = (
-  r,
-  v,
-  shape k (flats ts),
-  record {
-    root = r;
-    val = v;
-    seen = con-v k (flats ts);
-    named = nm;
-    reads = rd;
-    place = refl;
-    sees = se;
-    shaped = refl;
-  },
-  nm,
-  rd,
-)
-con-seen ds d x s r v (box-t i w t) D ty nm rd se = absurd ty
-con-seen ds d x s r v hole-t D ty nm rd se = absurd ty
-
-pub scrutinee-seen : (q : Prog) (C : List Entry) (ln : List Level-loan) (g : ch.Env) (d : me.Env) (F : List Entry) (T : List Tree) (s : State)
-    (w : Access) (x : Lexeme) (v : Var) (mm : Matched) → ch.there g x ≡ some v → looks-at q g v w (v .ty) ≡ some mm → Frame C ln [] g d [] F
-    → Invariant (q .datas) (F ++ C) T s → Scrutinee-seen d x s
-scrutinee-seen q C ln g d F T s w x v mm th la sc wo = go (aims q g v mm (pl .en .kind) w (v .ty) (pl .type) la)
-  where
-    it : (look g x ≡ some v) × (v .gone ≡ false)
-    it = there-is g x v th
-
-    pl : Name-at (q .datas) C ln g d [] F T s x v
-    pl = name-at (q .datas) C ln [] g d [] F T s x v sc wo (it .0)
-
-    fine-as : (z : Kind) → pl .en .kind ≡ z → Entry-ok (q .datas) (s .roots) (rooted (pl .root) 0) (v .gone) z (pl .stands .tree) (F ++ C) T
-    fine-as z e = subst (λ y. Entry-ok (q .datas) (s .roots) (rooted (pl .root) 0) (v .gone) y (pl .stands .tree) (F ++ C) T) e (pl .ok-at-root)
-
-    whole1 : (D : Lexeme) → Content (q .datas) (v .gone) (dat D) (pl .stands .tree) → Typed (q .datas) (pl .stands .tree) (dat D)
-    whole1 D (inl y) = y
-    whole1 D (inr y) = absurd (true-false (sym (y .0) ∙ it .1))
-
-    go : (D : Lexeme) × ((pl .en .kind ≡ own (dat D)) ⊎ ((al : Bool) × (a : Addr) × (ls : List Level-loan) × (pl .en .kind ≡ borrow al (dat D) a ls)))
-        → Scrutinee-seen d x s
-    go (D, inl e) =
-        let f = fine-as (own (dat D)) e in
-        let ty = whole1 D (f .3) in
-        let rd = reads s (pl .root) (flat (pl .stands .tree)) 0 (f .0) in
-        con-seen (q .datas) d x s (pl .root) (flat (pl .stands .tree)) (pl .stands .tree) D ty (pl .named) rd
-        (ap (read-at s) (place-con (q .datas) (pl .root) (pl .stands .tree) D ty) ∙ rd)
-    go (D, inr y) =
-        let e = y .3 in
-        let f = fine-as (borrow (y .0) (dat D) (y .1) (y .2)) e in
-        let pt : Valid-ref (q .datas) (F ++ C) T (dat D) (y .1) (f .1 .0) = f .1 .2 in
-        let hm = anchored-at (kinds (F ++ C)) (wo .borrows .anchored) (pl .level) (y .0) (dat D) (y .1) (y .2)
-        (pl .at-kind ∙ ap {B = Option Kind} (λ r. some r) e) in
-        con-seen (q .datas) d x s (pl .root) (f .1 .0) (pt .part) D (pt .typed) (pl .named) (reads s (pl .root) (f .1 .0) 0 (f .1 .1))
-        (ap (λ r. read-at s (place-of (pl .root) r)) (pt .value) ∙ valid-ref-read (q .datas) (F ++ C) T s (dat D) (hm .2 .0) (y .1) (f .1 .0) wo
-        (hm .2 .1) pt .0)
 
 -- the case match of exec
 pub match-step : (q : Prog) (m : Limits) (u : ℕ) → Preserved q m u

@@ -18,9 +18,11 @@ use Rattle.soundness.specs.Invariant.{Entry, kinds, Content, Entries-ok, Invar
 use Rattle.soundness.specs.Frames.{Scope, Frame, owned-entry}
 use Rattle.soundness.specs.Preserved.{Scrutinee}
 use Rattle.soundness.proofs.Basics.{no-some, some-is, only-is, true-false}
-use Rattle.soundness.proofs.loans.Stack.{push-own, pop-borrows}
+use Rattle.soundness.proofs.loans.Free.{push-own, pop-borrows}
 use Rattle.soundness.proofs.invariant.Levels.{borrows-under}
-use Rattle.soundness.proofs.invariant.Top.{typed-owned, with-root, owned-entries, trees-of, parts-borrows, parts-sum, open-con}
+use Rattle.soundness.proofs.memory.Sizes.{typed-owned}
+use Rattle.soundness.proofs.invariant.Top.{with-root}
+use Rattle.soundness.proofs.invariant.Apart.{owned-entries, trees-of, parts-borrows, parts-sum, open-con}
 use Rattle.soundness.proofs.invariant.Replace.{removed-entry}
 use Rattle.soundness.proofs.invariant.Rooting.{root-mid}
 use Rattle.soundness.proofs.statics.Accepted.{okay}

@@ -19,7 +19,8 @@ use Rattle.soundness.specs.Invariant.{rooted, Entry, kinds, places, Content, V
 use Rattle.soundness.specs.Frames.{name-level, Loans-cover, Kind-fits, Scope}
 use Rattle.soundness.specs.Preserved.{Scrutinee}
 use Rattle.soundness.proofs.Basics.{some-is, true-false}
-use Rattle.soundness.proofs.loans.Stack.{level-below, Unobstructed}
+use Rattle.soundness.proofs.loans.Levels.{level-below}
+use Rattle.soundness.proofs.loans.Exclusivity.{Unobstructed}
 use Rattle.soundness.proofs.invariant.Top.{reads}
 use Rattle.soundness.proofs.invariant.Borrows.{anchored-at, valid-ref-read}
 use Rattle.soundness.proofs.statics.Accepted.{okay}

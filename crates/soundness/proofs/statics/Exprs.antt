@@ -10,7 +10,7 @@ use Rattle.language.specs.Syntax.{Ty, int, dat, box, ref, mut, Expr, num, var, 
 use Rattle.language.specs.Checks.{Loan, Var, types-of-pars, loan, Env, look, set-gone, typed, value, shared, Typed, there, expr, holds, args}
 use Rattle.language.specs.Checks as ch
 use Rattle.soundness.proofs.Basics.{no-some, some-is, if-some-is, only-is, true-false, same-is}
-use Rattle.soundness.proofs.statics.Inversion.{op-rule, ctor-rule, boxed-rule, call-rule, lend-rule, load-rule, args-rule}
+use Rattle.soundness.proofs.statics.ExprRules.{op-rule, ctor-rule, boxed-rule, call-rule, lend-rule, load-rule, args-rule}
 
 abbrev pub Env-like : Env → Env → Type 0
 Env-like [] [] = Unit {0}

@@ -11,7 +11,7 @@ use Rattle.soundness.proofs.Basics.{no-some, some-is, if-some-is, only-is, sam
 use Rattle.soundness.proofs.invariant.Flags.{Weaker}
 use Rattle.soundness.proofs.statics.Exprs.{Env-like, like-self, like-then, like-gone, expr-like, fresh-like}
 use Rattle.soundness.proofs.statics.Scopes.{Distinct, like-distinct, like-sym, both-like, both-left, both-right, Grows, grows-like, grows-then, fresh-none, grows-enter, outer-like, bind-grows, looks-like}
-use Rattle.soundness.proofs.statics.Inversion.{bind-rule, assign-rule, store-rule, put-rule, cond-rule, loop-rule, match-rule, open-rule, inside-rule}
+use Rattle.soundness.proofs.statics.StmtRules.{bind-rule, assign-rule, store-rule, put-rule, cond-rule, loop-rule, match-rule, open-rule, inside-rule}
 
 goes-env : (g : Env) (v : Var) (x : Lexeme) (t : Ty) (h : Env) → goes-in g v x t ≡ some h → (u : Ty) × (ls : List Loan) × (enter g x u ls ≡ h)
 goes-env g v x int h e = absurd (no-some e)

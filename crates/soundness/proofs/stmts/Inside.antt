@@ -19,7 +19,7 @@ use Rattle.soundness.specs.Frames.{Loans-cover, Kind-fits, Scope, Frame}
 use Rattle.soundness.specs.Preserved.{safe-ok, Safe, After-exec}
 use Rattle.soundness.proofs.Basics.{no-some, some-is, if-some-is, only-is, true-false}
 use Rattle.soundness.proofs.memory.Paths.{loc-down-step}
-use Rattle.soundness.proofs.loans.Stack.{unobstructed-free}
+use Rattle.soundness.proofs.loans.Exclusivity.{unobstructed-free}
 use Rattle.soundness.proofs.invariant.Top.{with-root, reads}
 use Rattle.soundness.proofs.invariant.Rooting.{root-mid}
 use Rattle.soundness.proofs.invariant.Borrows.{owner-of, one-loan, borrow-entry, push-loan, push-copy, valid-ref-read}
@@ -29,7 +29,7 @@ use Rattle.soundness.proofs.frames.Lookup.{Name-at, name-at, free-at, one-cove
 use Rattle.soundness.proofs.Safety.{safe-need}
 use Rattle.soundness.proofs.matches.Patterns.{scope-more, subtree-down}
 use Rattle.soundness.proofs.stmts.Open.{boxed-is, is-box1}
-use Rattle.soundness.proofs.statics.Inversion.{Inside-rule, inside-rule}
+use Rattle.soundness.proofs.statics.StmtRules.{Inside-rule, inside-rule}
 
 -- one step further down, into a box
 loc-down-in : (l : Loc) (q : Path) (t y : Tree) (r w : ℕ) → subtree q t ≡ some (box-t r w y) → loc-down l (q ++ (box-step ∷ [])) t ≡ here r

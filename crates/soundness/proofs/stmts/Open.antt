@@ -19,18 +19,21 @@ use Rattle.soundness.specs.Invariant.{rooted, in-flight, Entry, kinds, Content
 use Rattle.soundness.specs.Frames.{Kind-fits, Scope, Frame, owned-entry}
 use Rattle.soundness.specs.Preserved.{safe-ok, Safe, After-exec}
 use Rattle.soundness.proofs.Basics.{no-some, some-is, true-false}
-use Rattle.soundness.proofs.loans.Stack.{push-own, push-inert, pop-borrows}
-use Rattle.soundness.proofs.invariant.Top.{typed-owned, words-pos, with-root, shell, end-box-top, reads, ended-under}
-use Rattle.soundness.proofs.invariant.Replace.{Wrote, writes, removed-entry}
+use Rattle.soundness.proofs.loans.Free.{push-own, push-inert, pop-borrows}
+use Rattle.soundness.proofs.memory.Sizes.{typed-owned, words-pos}
+use Rattle.soundness.proofs.invariant.Top.{with-root, reads, ended-under}
+use Rattle.soundness.proofs.invariant.Apart.{shell, end-box-top}
+use Rattle.soundness.proofs.memory.Writes.{Wrote, writes}
+use Rattle.soundness.proofs.invariant.Replace.{removed-entry}
 use Rattle.soundness.proofs.invariant.Rooting.{root-mid}
 use Rattle.soundness.proofs.statics.Exprs.{like-gone, fresh-like}
 use Rattle.soundness.proofs.statics.Rules.{there-is}
 use Rattle.soundness.proofs.statics.Scopes.{fresh-none}
-use Rattle.soundness.proofs.frames.Names.{name-entry}
+use Rattle.soundness.proofs.frames.Levels.{name-entry}
 use Rattle.soundness.proofs.frames.Moves.{Swapped, move-name}
 use Rattle.soundness.proofs.Safety.{safe-need}
-use Rattle.soundness.proofs.stmts.Stores.{typed-there}
-use Rattle.soundness.proofs.statics.Inversion.{Open-rule, open-rule}
+use Rattle.soundness.proofs.stmts.Store.{typed-there}
+use Rattle.soundness.proofs.statics.StmtRules.{Open-rule, open-rule}
 
 -- a box in flight: what is in it, in flight, under the box that is to end
 open-shell : (ds : List Data) (e : Entry) (N : List Entry) (r w : ℕ) (x : Tree) (t : Ty) (T : List Tree) (s : State) (v : Value) → e .at ≡ in-flight v

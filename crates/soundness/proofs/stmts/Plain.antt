@@ -25,7 +25,7 @@ use Rattle.soundness.proofs.statics.Exprs.{like-then, expr-like}
 use Rattle.soundness.proofs.statics.Scopes.{scope-distinct, like-distinct, like-sym, both-left, both-right, not-more-gone, fresh-none, outer-like}
 use Rattle.soundness.proofs.statics.Stmts.{stmts-grows}
 use Rattle.soundness.proofs.Safety.{safe-then, safe-need, safe-turn, safe-choose, safe-weaken, after-weak, turned}
-use Rattle.soundness.proofs.statics.Inversion.{bind-rule, put-rule, cond-rule, loop-rule}
+use Rattle.soundness.proofs.statics.StmtRules.{bind-rule, put-rule, cond-rule, loop-rule}
 
 -- let x = e
 pub bind-step : (q : Prog) (m : Limits) (u : ℕ) → Preserved q m u

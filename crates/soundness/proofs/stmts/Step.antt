@@ -8,7 +8,8 @@ use Rattle.language.specs.Meaning.{Limits}
 use Rattle.soundness.specs.Preserved.{Exec-ok, Preserved}
 use Rattle.soundness.proofs.matches.Step.{match-step}
 use Rattle.soundness.proofs.stmts.Plain.{bind-step, show-step, cond-step, loop-step}
-use Rattle.soundness.proofs.stmts.Stores.{assign-step, store-step}
+use Rattle.soundness.proofs.stmts.Assign.{assign-step}
+use Rattle.soundness.proofs.stmts.Store.{store-step}
 use Rattle.soundness.proofs.stmts.Open.{open-step}
 use Rattle.soundness.proofs.stmts.Inside.{inside-step}
 
