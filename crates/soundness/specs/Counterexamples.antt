@@ -1,4 +1,4 @@
--- Programs that go wrong, each refused by the one rule that is named above it: with that rule left out it would be accepted, so no rule of these can be weaker.
+-- Programs that go wrong, and are refused: with the rule left out that is named above it, each would be accepted.
 use mathlib.Core.Bool.{Bool, true, false}
 use mathlib.Core.List.{List, [], _∷_}
 use mathlib.Core.Path.{_≡_}
