@@ -1,30 +1,29 @@
 -- The steps of eval whose value is a number: num, read, op, *r.
-use mathlib.Core.Bool.{Bool, true, false}
 use mathlib.Core.List.{List, [], _∷_, _++_}
 use mathlib.Core.Option.{some}
-use mathlib.Core.Path.{_≡_, refl, sym, _∙_, ap, subst}
+use mathlib.Core.Path.{_≡_, refl, _∙_, ap, subst}
 use Prim.Native.Nat.{ℕ, suc}
 use lib.ListN.{drop}
 use Rattle.language.specs.Base.{Lexeme}
-use Rattle.language.specs.Syntax.{Ty, int, dat, box, ref, mut, Expr, num, op, load, get-e, Prog}
-use Rattle.language.specs.Checks.{Loan, Var, owned, loadable}
+use Rattle.language.specs.Syntax.{int, Expr, num, op, load, get-e, Prog}
+use Rattle.language.specs.Checks.{Loan}
 use Rattle.language.specs.Checks as ch
-use Rattle.language.specs.Meaning.{Loc, Value, int-v, State, Limits, here, read-at, eval, loc-of, num-of, worked, next-read, two-64}
+use Rattle.language.specs.Meaning.{State, Limits, eval, num-of, worked, next-read, two-64}
 use Rattle.language.specs.Meaning as me
-use Rattle.soundness.specs.Trees.{Tree, Typed, loc-down}
-use Rattle.soundness.specs.Borrows.{Addr, Level-loan, Kind, own, borrow, inert, at-level}
-use Rattle.soundness.specs.Invariant.{rooted, Entry, kinds, Entry-ok, Invariant}
-use Rattle.soundness.specs.Frames.{Kind-fits, Value-entry, Frame}
+use Rattle.soundness.specs.Trees.{Tree}
+use Rattle.soundness.specs.Borrows.{Level-loan}
+use Rattle.soundness.specs.Invariant.{Entry, Invariant}
+use Rattle.soundness.specs.Frames.{Value-entry, Frame}
 use Rattle.soundness.specs.Preserved.{safe-ok, Safe, After-eval, Preserved}
-use Rattle.soundness.proofs.Basics.{true-false}
-use Rattle.soundness.proofs.invariant.Top.{invariant-same, reads, pop-int}
+use Rattle.soundness.proofs.invariant.Top.{invariant-same, pop-int}
 use Rattle.soundness.proofs.invariant.Values.{typed-int, top-int}
-use Rattle.soundness.proofs.invariant.Borrows.{owner-of, valid-ref-read}
-use Rattle.soundness.proofs.statics.Rules.{there-is, same-ty-is}
-use Rattle.soundness.proofs.frames.Lookup.{Name-at, name-at}
+use Rattle.soundness.proofs.statics.Rules.{there-is}
+use Rattle.soundness.proofs.frames.Lookup.{name-at}
 use Rattle.soundness.proofs.Safety.{safe-then, safe-need}
 use Rattle.soundness.proofs.exprs.Results.{int-after, frame-after}
-use Rattle.soundness.proofs.statics.ExprRules.{op-rule, load-rule, Load-rule}
+use Rattle.soundness.proofs.statics.ExprRules.{op-rule, load-rule}
+use Rattle.soundness.proofs.frames.AtName.{borrow-at}
+use Rattle.soundness.proofs.invariant.Kinds.{loadable-is}
 
 pub num-step : (q : Prog) (m : Limits) (u : ℕ) (C : List Entry) (ln : List Level-loan) (held : List Loan) (g : ch.Env) (d : me.Env) (H F : List Entry)
     (T : List Tree) (s : State) (k : ℕ) (r : ch.Typed) → ch.expr q held g (num k) ≡ some r → Frame C ln held g d H F
@@ -78,50 +77,15 @@ pub load-step : (q : Prog) (m : Limits) (u : ℕ) (C : List Entry) (ln : List Le
     → Invariant (q .datas) (H ++ (F ++ C)) T s → Safe (After-eval q C ln d H r (s .under)) (eval (suc u) m q d (load x) s)
 unfolding me.eval
 load-step q m u C ln held g d H F T s x r e sc w =
-    safe-need Q _ _ _ (pl .named) (by-shape1 (pl .en .kind) (pl .type) (pl .at-kind) (pl .ok-at-root))
-  where
-    N : List Entry
-    N = H ++ (F ++ C)
-
-    Q : Value → State → Type 0
-    Q = After-eval q C ln d H r (s .under)
-
-    i : Load-rule held g x r
-    i = load-rule q held g x r e
-
-    v : Var
-    v = i .var1
-
-    pl : Name-at (q .datas) C ln g d H F T s x v
-    pl = name-at (q .datas) C ln held g d H F T s x v sc w (there-is g x v (i .is-there) .0)
-
-    not-owned : (t : Ty) → owned t ≡ true → loadable t ≡ true → ⊥
-    not-owned int a k = true-false (sym k)
-    not-owned (dat i) a k = true-false (sym k)
-    not-owned (box t) a k = true-false (sym k)
-    not-owned (ref t) a k = true-false (sym a)
-    not-owned (mut t) a k = true-false (sym a)
-
-    through : (al : Bool) (t : Ty) (a : Addr) (ls : List Level-loan) → t ≡ int → at-level (kinds N) (pl .level) ≡ some (borrow al t a ls)
-        → Entry-ok (q .datas) (s .roots) (rooted (pl .root) 0) (v .gone) (borrow al t a ls) (pl .stands .tree) N T
-        → Safe Q (me.need s (read-at s (here (pl .root)))
-        (λ z. me.need s (loc-of z) (λ l. me.need s (read-at s l) (λ y. me.need s (num-of y) (λ k. me.ok (int-v k) s)))))
-    through al t a ls t-is at-sh fi =
-        let pt = fi .1 .2 in
-        let ow = owner-of (kinds N) (w .borrows .anchored) (pl .level) (borrow al t a ls) a at-sh refl in
-        let rd = valid-ref-read (q .datas) N T s t (ow .0) a (fi .1 .0) w (ow .1) pt in
-        let k = typed-int (q .datas) (pt .part) (subst (Typed (q .datas) (pt .part)) t-is (pt .typed)) in
-        let loc : Loc = loc-down (here (pt .root)) (a .path) (pt .whole) in
-        safe-need Q _ _ _ (reads s (pl .root) (fi .1 .0) 0 (fi .1 .1))
-        (safe-need Q _ _ _ (ap loc-of (pt .value))
-        (safe-need Q _ _ _ (rd .0)
-        (safe-need Q _ _ _ (ap num-of (k .1)) (safe-ok (int-after q C ln g d H F T s (k .0) (s .under) r (i .behind) (sc .names) w refl)))))
-
-    by-shape1 : (sh : Kind) → Kind-fits (v .ty) sh → at-level (kinds N) (pl .level) ≡ some sh
-        → Entry-ok (q .datas) (s .roots) (rooted (pl .root) 0) (v .gone) sh (pl .stands .tree) N T
-        → Safe Q (me.need s (read-at s (here (pl .root)))
-        (λ z. me.need s (loc-of z) (λ l. me.need s (read-at s l) (λ y. me.need s (num-of y) (λ k. me.ok (int-v k) s)))))
-    by-shape1 (own t) su at-sh fi = absurd (not-owned (v .ty) (ap owned (su .0) ∙ su .1) (i .is-loadable))
-    by-shape1 (borrow true t a ls) su at-sh fi = through true t a ls (same-ty-is t int (ap loadable (sym su) ∙ i .is-loadable)) at-sh fi
-    by-shape1 (borrow false t a ls) su at-sh fi = through false t a ls (same-ty-is t int (ap loadable (sym su) ∙ i .is-loadable)) at-sh fi
-    by-shape1 inert su at-sh fi = absurd su
+    let i = load-rule q held g x r e in
+    let n = name-at (q .datas) C ln held g d H F T s x (i .var1) sc w (there-is g x (i .var1) (i .is-there) .0) in
+    let ld = loadable-is (i .var1 .ty) (i .is-loadable) in
+    let b = borrow-at (q .datas) C ln g d H F T s x (i .var1) (ld .0) int w n (ld .1) in
+    let k = typed-int (q .datas) (b .valid .part) (b .valid .typed) in
+    let Q = After-eval q C ln d H r (s .under) in
+    safe-need Q _ _ _ (n .named)
+    (safe-need Q _ _ _ (b .reads-it)
+    (safe-need Q _ _ _ refl
+    (safe-need Q _ _ _ (b .leads)
+    (safe-need Q _ _ _ (ap num-of (k .1))
+    (safe-ok (int-after q C ln g d H F T s (k .0) (s .under) r (i .behind) (sc .names) w refl))))))

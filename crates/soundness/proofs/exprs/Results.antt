@@ -1,24 +1,29 @@
 -- What stands behind an expression whose value is a number or a reference; and the frame for the next one.
-use mathlib.Core.Bool.{Bool}
+use mathlib.Core.Bool.{Bool, true}
 use mathlib.Core.List.{List, [], _∷_, _++_}
 use mathlib.Core.Option.{some}
 use mathlib.Core.Path.{_≡_, refl, sym, ap, subst}
 use Prim.Native.Nat.{ℕ}
 use lib.ListN.{length}
 use Rattle.language.specs.Syntax.{Ty, int, Prog}
-use Rattle.language.specs.Checks.{Loan, typed}
+use Rattle.language.specs.Checks.{Loan, typed, loan, all-loans}
 use Rattle.language.specs.Checks as ch
 use Rattle.language.specs.Meaning.{Value, int-v, State}
 use Rattle.language.specs.Meaning as me
+use Rattle.language.specs.Base.{Lexeme}
 use Rattle.soundness.specs.Trees.{Tree, int-t, hole-t}
-use Rattle.soundness.specs.Borrows.{Addr, Level-loan, borrow}
-use Rattle.soundness.specs.Invariant.{Entry, Invariant}
-use Rattle.soundness.specs.Frames.{Loans-cover, Kind-fits, Scope, all-loans-of, Frame, owned-entry}
+use Rattle.soundness.specs.Borrows.{Addr, Level-loan, borrow, at-level, addr-of, exclusive, Kind}
+use Rattle.soundness.specs.Invariant.{Entry, Invariant, kinds, Valid-ref}
+use Rattle.soundness.specs.Frames.{Loans-cover, Kind-fits, Scope, all-loans-of, Frame, owned-entry, name-level}
 use Rattle.soundness.specs.Preserved.{After-eval}
 use Rattle.soundness.proofs.Basics.{some-is}
 use Rattle.soundness.proofs.invariant.Values.{push-int}
-use Rattle.soundness.proofs.invariant.Borrows.{borrow-entry}
+use Rattle.soundness.proofs.invariant.Borrows.{borrow-entry, one-loan, push-loan}
 use Rattle.soundness.proofs.frames.Covers.{cover-same}
+use Rattle.soundness.proofs.frames.AtName.{May-lend, lendable}
+use Rattle.soundness.proofs.frames.Lookup.{one-covered}
+use Rattle.soundness.proofs.invariant.Kinds.{ref-type, borrow-fits}
+use Rattle.soundness.proofs.loans.Levels.{prefix-self}
 
 -- an expression whose value is a number
 pub int-after : (q : Prog) (C : List Entry) (ln : List Level-loan) (g : ch.Env) (d : me.Env) (H F : List Entry) (T : List Tree) (s : State) (k j : ℕ)
@@ -62,3 +67,15 @@ ref-after q C ln g d H F T s al t a L v ty ls r e su cov mt w = record {
   where
     r-is : record { ty = ty; loans = ls; env = g } ≡ r
     r-is = some-is e
+
+-- an expression whose value is a loan of the name x: of what it owns, or of what it was lent alone
+pub loan-after : (q : Prog) (C : List Entry) (ln : List Level-loan) (held : List Loan) (g : ch.Env) (d : me.Env) (H F : List Entry) (T : List Tree)
+    (s : State) (x : Lexeme) (lx : ℕ) (al : Bool) (z : Kind) (a : Addr) (t : Ty) (val : Value) (r : ch.Typed) → Frame C ln held g d H F
+    → Invariant (q .datas) (H ++ (F ++ C)) T s → name-level (length C) g x ≡ some lx → May-lend (held ++ all-loans g) x al
+    → at-level (kinds (H ++ (F ++ C))) lx ≡ some z → addr-of lx z ≡ some a → exclusive z ≡ true → Valid-ref (q .datas) (H ++ (F ++ C)) T t a val
+    → typed (ref-type al t) (loan x al ∷ []) g ≡ some r → After-eval q C ln d H r (s .under) val s
+loan-after q C ln held g d H F T s x lx al z a t val r sc w lv may z-at a-is xz pt e =
+    ref-after q C ln g d H F T s al t a (one-loan lx al) val (ref-type al t) (loan x al ∷ []) r e (borrow-fits al t a (one-loan lx al))
+    (one-covered (length C) ln g x lx al lv) (sc .names)
+    (push-loan (q .datas) (H ++ (F ++ C)) T s lx z a a al t val z-at a-is xz (prefix-self a)
+    (lendable (q .datas) C ln held g d H F T s x lx al z a a sc w lv may z-at a-is xz (prefix-self a)) pt w)

@@ -18,10 +18,10 @@ use Rattle.soundness.proofs.Basics.{some-is, true-false}
 use Rattle.soundness.proofs.loans.Free.{none-below, owner-older, none-into}
 use Rattle.soundness.proofs.invariant.Levels.{not-gone}
 use Rattle.soundness.proofs.invariant.Top.{reads}
-use Rattle.soundness.proofs.invariant.Values.{owned-kind}
 use Rattle.soundness.proofs.invariant.Borrows.{owner-of, valid-ref-read}
 use Rattle.soundness.proofs.statics.Rules.{there-is}
 use Rattle.soundness.proofs.frames.Lookup.{name-at, free-at}
+use Rattle.soundness.proofs.invariant.Kinds.{owned-kind}
 
 pub there-typed : There-typed
 there-typed ds C ln held g d H F T s x v fr w th ow =

@@ -15,6 +15,7 @@ use Rattle.soundness.specs.Invariant.{in-flight, Entry, kinds, Content, Entry-
 use Rattle.soundness.specs.Frames.{Kind-fits, Value-entry, owned-entry}
 use Rattle.soundness.proofs.Basics.{true-false}
 use Rattle.soundness.proofs.loans.Free.{push-own}
+use Rattle.soundness.proofs.invariant.Kinds.{owned-kind}
 
 -- what's in flight, of an owned type
 pub owned-value : (ds : List Data) (rs : List Root) (e : Entry) (x : Tree) (N : List Entry) (T : List Tree) (v : Value) (t : Ty) → owned t ≡ true
@@ -30,12 +31,6 @@ owned-value ds rs e x N T v t ow fl f0 = go (e .kind) (fl .type) (subst (λ z. E
     go (borrow true u a ls) su f = absurd (true-false (sym ow ∙ ap owned su))
     go (borrow false u a ls) su f = absurd (true-false (sym ow ∙ ap owned su))
     go inert su f = absurd su
-
-pub owned-kind : (t : Ty) (sh : Kind) → owned t ≡ true → Kind-fits t sh → sh ≡ own t
-owned-kind t (own u) ow su = ap own (sym (su .0))
-owned-kind t (borrow true u a ls) ow su = absurd (true-false (sym ow ∙ ap owned su))
-owned-kind t (borrow false u a ls) ow su = absurd (true-false (sym ow ∙ ap owned su))
-owned-kind t inert ow su = absurd su
 
 pub record Owned-top (ds : List Data) (T : List Tree) (s : State) (v : Value) (t : Ty) (e : Entry) : Type 0 where
   pub tree : Tree

@@ -22,7 +22,8 @@ use Rattle.soundness.proofs.invariant.Borrows.{anchored-at, valid-ref-read}
 use Rattle.soundness.proofs.statics.Rules.{there-is}
 use Rattle.soundness.proofs.frames.Lookup.{Name-at, name-at}
 use Rattle.soundness.proofs.matches.View.{place-con}
-use Rattle.soundness.proofs.matches.Scrutinee.{fits-dat, fits-ref, fits-mut, matched-is, data-of-is}
+use Rattle.soundness.proofs.invariant.Kinds.{fits-dat, fits-ref, fits-mut}
+use Rattle.soundness.proofs.matches.Scrutinee.{matched-is, data-of-is}
 
 -- what a rule lets be looked at: data, by its owner or by a reference
 aims : (q : Prog) (g : ch.Env) (v : Var) (mm : Matched) (z : Kind) (w : Access) (ty : Ty) → Kind-fits ty z → looks-at q g v w ty ≡ some mm

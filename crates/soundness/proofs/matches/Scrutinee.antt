@@ -5,20 +5,19 @@ use mathlib.Core.Logic.{inl}
 use mathlib.Core.Option.{Option, some, none}
 use mathlib.Core.Path.{_≡_, refl, sym, _∙_, ap, subst}
 use Prim.Native.Nat.{ℕ}
-use native.Mathlib.Omega.{arith}
 use lib.ListN.{length}
 use Rattle.language.specs.Base.{Lexeme}
 use Rattle.language.specs.Syntax.{Ty, int, dat, box, ref, mut, Access, Data, Prog, take, view, edit}
-use Rattle.language.specs.Checks.{Loan, Var, Matched, loan, owned, look, set-gone, is-free, readable, all-loans, looks-at, matched, data-of, data-named}
+use Rattle.language.specs.Checks.{Loan, Var, Matched, loan, look, set-gone, is-free, readable, all-loans, looks-at, matched, data-of, data-named}
 use Rattle.language.specs.Checks as ch
 use Rattle.language.specs.Meaning.{Loc, Values, State, shape, taken, refs-to, parts}
 use Rattle.language.specs.Meaning as me
 use Rattle.soundness.specs.Trees.{Tree}
-use Rattle.soundness.specs.Borrows.{Addr, Level-loan, Kind, own, borrow, inert, at-level, exclusive, loans-of, addr-of, Prefix}
+use Rattle.soundness.specs.Borrows.{Addr, Level-loan, Kind, own, borrow, at-level, exclusive, loans-of, addr-of, Prefix}
 use Rattle.soundness.specs.Invariant.{rooted, Entry, kinds, Entry-ok, Invariant}
 use Rattle.soundness.specs.Frames.{name-level, Loans-cover, Kind-fits, Scope, Frame}
 use Rattle.soundness.specs.Preserved.{Scrutinee}
-use Rattle.soundness.proofs.Basics.{no-some, some-is, only-is, true-false}
+use Rattle.soundness.proofs.Basics.{no-some, some-is, only-is}
 use Rattle.soundness.proofs.loans.Exclusivity.{Unobstructed, unobstructed-free, unobstructed-readable}
 use Rattle.soundness.proofs.invariant.Borrows.{anchored-at, owner-of}
 use Rattle.soundness.proofs.statics.Exprs.{look-name}
@@ -26,25 +25,7 @@ use Rattle.soundness.proofs.statics.Rules.{there-is}
 use Rattle.soundness.proofs.frames.Lookup.{Name-at, name-at, free-at, readable-at}
 use Rattle.soundness.proofs.matches.View.{Seen, seen-own, seen-ref, Looked, Suit, looked-refs, looked-name}
 use Rattle.soundness.proofs.matches.Take.{looked-take}
-
--- kinds by types
-pub fits-dat : (D : Lexeme) (z : Kind) → Kind-fits (dat D) z → z ≡ own (dat D)
-fits-dat D (own u) su = ap own (sym (su .0))
-fits-dat D (borrow true u a ls) su = absurd (let k : _≡_ {A = ℕ} 0 1 = cc in omega arith)
-fits-dat D (borrow false u a ls) su = absurd (let k : _≡_ {A = ℕ} 0 1 = cc in omega arith)
-fits-dat D inert su = absurd su
-
-pub fits-ref : (t : Ty) (z : Kind) → Kind-fits (ref t) z → (a : Addr) × (ls : List Level-loan) × (z ≡ borrow false t a ls)
-fits-ref t (own u) su = absurd (true-false (sym (su .1) ∙ ap owned (sym (su .0))))
-fits-ref t (borrow true u a ls) su = absurd (let k : _≡_ {A = ℕ} 0 1 = cc in omega arith)
-fits-ref t (borrow false u a ls) su = let e : t ≡ u = cc in (a, ls, ap (λ y. borrow false y a ls) (sym e))
-fits-ref t inert su = absurd su
-
-pub fits-mut : (t : Ty) (z : Kind) → Kind-fits (mut t) z → (a : Addr) × (ls : List Level-loan) × (z ≡ borrow true t a ls)
-fits-mut t (own u) su = absurd (true-false (sym (su .1) ∙ ap owned (sym (su .0))))
-fits-mut t (borrow true u a ls) su = let e : t ≡ u = cc in (a, ls, ap (λ y. borrow true y a ls) (sym e))
-fits-mut t (borrow false u a ls) su = absurd (let k : _≡_ {A = ℕ} 0 1 = cc in omega arith)
-fits-mut t inert su = absurd su
+use Rattle.soundness.proofs.invariant.Kinds.{fits-mut, fits-dat, fits-ref}
 
 -- what the rule says
 pub matched-is : (o : Option Data) (ls : List Loan) (g : ch.Env) (mm : Matched) → matched o ls g ≡ some mm

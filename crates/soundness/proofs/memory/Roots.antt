@@ -13,7 +13,8 @@ use Rattle.soundness.specs.Invariant.{live-sum, of-size}
 use Rattle.soundness.proofs.Basics.{no-some, some-is}
 use Rattle.soundness.proofs.memory.Paths.{mark}
 
-pub sum-kill : (f : ℕ → ℕ → ℕ) (i : ℕ) (rs : List Root) (r : ℕ) (v : Value) (w : ℕ) → at-place rs r ≡ some (record { live = true; val = v; words = w })
+pub sum-kill : (f : ℕ → ℕ → ℕ) (i : ℕ) (rs : List Root) (r : ℕ) (v : Value) (w : ℕ)
+    → at-place rs r ≡ some (record { live = true; val = v; words = w })
     → live-sum f i (set-at rs r (record { live = false; val = hole; words = w })) + f (r + i) w ≡ live-sum f i rs
 sum-kill f i [] r v w e = absurd (no-some e)
 sum-kill f i (x ∷ rs) zero v w e =

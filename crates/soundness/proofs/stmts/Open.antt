@@ -14,7 +14,7 @@ use Rattle.language.specs.Checks as ch
 use Rattle.language.specs.Meaning.{Value, Root, State, Limits, here, read-at, exec, hole, with-roots, adds-root, ends-box, write-at, box-of}
 use Rattle.language.specs.Meaning as me
 use Rattle.soundness.specs.Trees.{Tree, int-t, con-t, box-t, hole-t, flat, Stored, Typed}
-use Rattle.soundness.specs.Borrows.{Level-loan, Kind, own, borrow, inert}
+use Rattle.soundness.specs.Borrows.{Level-loan, own}
 use Rattle.soundness.specs.Invariant.{rooted, in-flight, Entry, kinds, Content, Idle, place-sum, Invariant}
 use Rattle.soundness.specs.Frames.{Kind-fits, Scope, Frame, owned-entry}
 use Rattle.soundness.specs.Preserved.{safe-ok, Safe, After-exec}
@@ -34,6 +34,7 @@ use Rattle.soundness.proofs.frames.Moves.{Swapped, move-name}
 use Rattle.soundness.proofs.Safety.{safe-need}
 use Rattle.soundness.proofs.stmts.Store.{typed-there}
 use Rattle.soundness.proofs.statics.StmtRules.{Open-rule, open-rule}
+use Rattle.soundness.proofs.invariant.Kinds.{box-owned}
 
 -- a box in flight: what is in it, in flight, under the box that is to end
 open-shell : (ds : List Data) (e : Entry) (N : List Entry) (r w : ℕ) (x : Tree) (t : Ty) (T : List Tree) (s : State) (v : Value) → e .at ≡ in-flight v
@@ -103,12 +104,6 @@ boxed-is (box t) u e = ap box (some-is e)
 boxed-is (ref t) u e = absurd (no-some e)
 boxed-is (mut t) u e = absurd (no-some e)
 
-fits-owned : (u : Ty) (sh : Kind) → Kind-fits (box u) sh → owned u ≡ true
-fits-owned u (own t) h = ap owned (h .0) ∙ h .1
-fits-owned u (borrow true t a ls) h = absurd (let z : _≡_ {A = ℕ} 0 1 = cc in omega arith)
-fits-owned u (borrow false t a ls) h = absurd (let z : _≡_ {A = ℕ} 0 1 = cc in omega arith)
-fits-owned u inert h = absurd h
-
 -- a tree of a box's type
 pub is-box1 : (ds : List Data) (x : Tree) (u : Ty) → Typed ds x (box u) → (r : ℕ) × (w : ℕ) × (y : Tree) × (x ≡ box-t r w y) × (1 ≤ w) × Typed ds y u
 is-box1 ds (int-t k) u ty = absurd ty
@@ -150,7 +145,7 @@ open-step q m u C ln g g2 d F T s x y e sc w =
     ow : owned tb ≡ true
     ow =
         let en = name-entry C ln g d F y v (sc .names) (th .0) in
-        fits-owned tb (en .en .kind) (subst (λ z. Kind-fits z (en .en .kind)) ty-is (en .type))
+        box-owned tb (en .en .kind) (subst (λ z. Kind-fits z (en .en .kind)) ty-is (en .type))
 
     sw : Swapped (q .datas) C ln g d [] y v true hole-t s
     sw = move-name (q .datas) C ln [] g d [] F y v T s sc (th .0) (ap owned ty-is ∙ ow) (i1 .free) w
