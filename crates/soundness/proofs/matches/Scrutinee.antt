@@ -8,24 +8,24 @@ use Prim.Native.Nat.{ℕ}
 use lib.ListN.{length}
 use Rattle.language.specs.Base.{Lexeme}
 use Rattle.language.specs.Syntax.{Ty, int, dat, box, ref, mut, Access, Data, Prog, take, view, edit}
-use Rattle.language.specs.Checks.{Loan, Var, Matched, loan, look, set-gone, is-free, readable, all-loans, looks-at, matched, data-of, data-named}
+use Rattle.language.specs.Checks.{Loan, Var, Matched, loan, look, set-gone, is-free, all-loans, looks-at, matched, data-of, data-named}
 use Rattle.language.specs.Checks as ch
 use Rattle.language.specs.Meaning.{Loc, Values, State, shape, taken, refs-to, parts}
 use Rattle.language.specs.Meaning as me
 use Rattle.soundness.specs.Trees.{Tree}
-use Rattle.soundness.specs.Borrows.{Addr, Level-loan, Kind, own, borrow, at-level, exclusive, loans-of, addr-of, Prefix}
+use Rattle.soundness.specs.Borrows.{Addr, Level-loan, Kind, own, borrow, at-level, exclusive, loans-of}
 use Rattle.soundness.specs.Invariant.{rooted, Entry, kinds, Entry-ok, Invariant}
 use Rattle.soundness.specs.Frames.{name-level, Loans-cover, Kind-fits, Scope, Frame}
 use Rattle.soundness.specs.Preserved.{Scrutinee}
 use Rattle.soundness.proofs.Basics.{no-some, some-is, only-is}
-use Rattle.soundness.proofs.loans.Exclusivity.{Unobstructed, unobstructed-free, unobstructed-readable}
 use Rattle.soundness.proofs.invariant.Borrows.{anchored-at, owner-of}
 use Rattle.soundness.proofs.statics.Exprs.{look-name}
 use Rattle.soundness.proofs.statics.Rules.{there-is}
-use Rattle.soundness.proofs.frames.Lookup.{Name-at, name-at, free-at, readable-at}
+use Rattle.soundness.proofs.frames.Lookup.{Name-at, name-at}
 use Rattle.soundness.proofs.matches.View.{Seen, seen-own, seen-ref, Looked, Suit, looked-refs, looked-name}
 use Rattle.soundness.proofs.matches.Take.{looked-take}
 use Rattle.soundness.proofs.invariant.Kinds.{fits-mut, fits-dat, fits-ref}
+use Rattle.soundness.proofs.frames.AtName.{May-lend, lendable}
 
 -- what the rule says
 pub matched-is : (o : Option Data) (ls : List Loan) (g : ch.Env) (mm : Matched) → matched o ls g ≡ some mm
@@ -41,10 +41,6 @@ data-of-is q (dat D) d e = (D, refl, e)
 data-of-is q (box t) d e = absurd (no-some e)
 data-of-is q (ref t) d e = absurd (no-some e)
 data-of-is q (mut t) d e = absurd (no-some e)
-
-abbrev Seen-right : ch.Env → Lexeme → Bool → Type 0
-Seen-right g x true = is-free (all-loans g) x ≡ true
-Seen-right g x false = readable (all-loans g) x ≡ true
 
 module _ (q : Prog) (o : ch.accepts q ≡ true) (C : List Entry) (ln : List Level-loan) (g : ch.Env) (d : me.Env) (F : List Entry) (T : List Tree)
     (s : State) (x : Lexeme) (v : Var) (sc : Frame C ln [] g d [] F) (wo : Invariant (q .datas) (F ++ C) T s) (th : ch.there g x ≡ some v) where
@@ -64,24 +60,16 @@ module _ (q : Prog) (o : ch.accepts q ≡ true) (C : List Entry) (ln : List Leve
   fine-as : (z : Kind) → pl .en .kind ≡ z → Entry-ok (q .datas) (s .roots) (rooted (pl .root) 0) (v .gone) z (pl .stands .tree) (F ++ C) T
   fine-as z e = subst (λ y. Entry-ok (q .datas) (s .roots) (rooted (pl .root) 0) (v .gone) y (pl .stands .tree) (F ++ C) T) e (pl .ok-at-root)
 
-  unobstructed-of : (al : Bool) → Seen-right g x al → (z : Kind) (az : Addr) → at-level (kinds (F ++ C)) (pl .level) ≡ some z
-      → addr-of (pl .level) z ≡ some az → exclusive z ≡ true → (aw : Addr) → Prefix az aw → Unobstructed (kinds (F ++ C)) (pl .level) al aw
-  unobstructed-of true r z az za ai xz aw pre =
-      unobstructed-free (kinds (F ++ C)) (wo .borrows .exclusivity) (pl .level) z az za ai xz
-      (free-at (q .datas) C ln [] g d [] F T s x (pl .level) sc wo (pl .levelled) r) true aw pre
-  unobstructed-of false r z az za ai xz aw pre =
-      unobstructed-readable (kinds (F ++ C)) (wo .borrows .exclusivity) (pl .level) z az za ai xz
-      (readable-at (q .datas) C ln [] g d [] F T s x (pl .level) sc wo (pl .levelled) r) aw pre
-
   module _ (mm : Matched) (l : Loc) (k : Lexeme) (vs : Values) (lk : Scrutinee d x l (shape k vs) s) where
     -- by an owner or a mut: loans of the name
     by-name : (w : Access) (al : Bool) → Suit w al → parts w l vs ≡ refs-to l 0 vs → taken w s l ≡ some s → (D : Lexeme) (z : Kind) → pl .en .kind ≡ z
         → exclusive z ≡ true → Seen (q .datas) (F ++ C) T (pl .level) z D l k vs → data-named (q .datas) D ≡ some (mm .data1)
-        → mm .loans ≡ loan (v .name) al ∷ [] → mm .env ≡ g → Seen-right g (v .name) al → Looked q C ln mm d w l k vs s
+        → mm .loans ≡ loan (v .name) al ∷ [] → mm .env ≡ g → May-lend (all-loans g) (v .name) al → Looked q C ln mm d w l k vs s
     by-name w al suit pa ta D z z-is xz sn dn ls-is env-is r =
         looked-name q o C ln d F T s w al mm D x (pl .level) z l k vs suit pa ta sn dn (stands-as z z-is) xz
         (owner-of (kinds (F ++ C)) (wo .borrows .anchored) (pl .level) z (sn .az) (stands-as z z-is) (sn .az-is))
-        (unobstructed-of al (subst (λ y. Seen-right g y al) name-is r) z (sn .az) (stands-as z z-is) (sn .az-is) xz)
+        (λ aw pre. lendable (q .datas) C ln [] g d [] F T s x (pl .level) al z (sn .az) aw sc wo (pl .levelled)
+        (subst (λ y. May-lend (all-loans g) y al) name-is r) (stands-as z z-is) (sn .az-is) xz pre)
         (subst (λ y. name-level (length C) y x ≡ some (pl .level)) (sym env-is) (pl .levelled))
         (subst (λ y. mm .loans ≡ loan y al ∷ []) name-is ls-is)
         (subst (λ y. Scope (length C) ln y d F) (sym env-is) (sc .names)) wo
