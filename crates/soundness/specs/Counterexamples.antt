@@ -3,7 +3,8 @@ use mathlib.Core.Bool.{Bool, true, false}
 use mathlib.Core.List.{List, [], _∷_}
 use mathlib.Core.Path.{_≡_}
 use Rattle.language.specs.Base.{Lexeme}
-use Rattle.language.specs.Syntax.{int, dat, ref, Expr, num, var, ctor, call, share, lend, load, nil-e, cons-e, Access, view, edit, Stmt, bind, assign, store, put-s, loop, match-s, Stmts, nil-s, cons-s, no-alts, alt, body, give, Data, Fn, Prog}
+use Rattle.language.specs.Syntax.{int, dat, ref, Expr, num, var, ctor, call, share, lend, load, nil-e, cons-e, Access, view, edit, Stmt, bind, assign}
+use Rattle.language.specs.Syntax.{store, put-s, loop, match-s, Stmts, nil-s, cons-s, no-alts, alt, body, give, Data, Fn, Prog}
 use Rattle.language.specs.Checks.{accepts, w-main}
 use Rattle.language.specs.Meaning.{Value, Stop, wrong, out-of-fuel, no-heap, no-stack, no-turns, Res, ok, stop, run}
 

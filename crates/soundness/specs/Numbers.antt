@@ -4,9 +4,13 @@ use mathlib.Core.Logic.{_⊎_}
 use mathlib.Core.Option.{some}
 use mathlib.Core.Path.{_≡_}
 use Prim.Native.Nat.{ℕ, _<_}
-use Rattle.language.specs.Syntax.{Expr, num, var, op, ctor, boxed, call, share, lend, load, get-e, Exprs, nil-e, cons-e, Access, Stmt, bind, assign, store, put-s, cond, loop, match-s, open-s, inside, Stmts, nil-s, cons-s, Alts, no-alts, alt, Body, body, Tail, give, give-cond, give-match, Arms, no-arms, arm, Fn, Prog}
+use Rattle.language.specs.Syntax.{Expr, num, var, op, ctor, boxed, call, share, lend, load, get-e, Exprs, nil-e, cons-e, Access, Stmt, bind, assign}
+use Rattle.language.specs.Syntax.{store, put-s, cond, loop, match-s, open-s, inside, Stmts, nil-s, cons-s, Alts, no-alts, alt, Body, body, Tail, give}
+use Rattle.language.specs.Syntax.{give-cond, give-match, Arms, no-arms, arm, Fn, Prog}
 use Rattle.language.specs.Text.{reads}
-use Rattle.language.specs.Meaning.{Loc, Value, int-v, con-v, box-v, ref-v, hole, Values, nil-v, cons-v, Root, State, Limits, Res, ok, stop, Env, Shape, shape, two-64, eval, evals, calls, bodies, tails, by-shape, execs, block, exec, by-alt, ends, drops, lasts, parts-of, drops-all, run}
+use Rattle.language.specs.Meaning.{Loc, Value, int-v, con-v, box-v, ref-v, hole, Values, nil-v, cons-v, Root, State, Limits, Res, ok, stop, Env}
+use Rattle.language.specs.Meaning.{Shape, shape, two-64, eval, evals, calls, bodies, tails, by-shape, execs, block, exec, by-alt, ends, drops, lasts}
+use Rattle.language.specs.Meaning.{parts-of, drops-all, run}
 use Rattle.language.specs.Says.{Front}
 
 abbrev pub Every : {A : Type 0} → (A → Type 0) → List A → Type 0

@@ -9,12 +9,15 @@ use Rattle.language.specs.Base.{Lexeme}
 use Rattle.language.specs.Syntax.{Ty, int, dat, mut, Expr, Exprs, Access, Stmt, Stmts, Alts, Body, Tail, Arms, Fn, Prog}
 use Rattle.language.specs.Checks.{Loan, Var, Matched, ok-fn, types-of-pars}
 use Rattle.language.specs.Checks as ch
-use Rattle.language.specs.Meaning.{Loc, Value, Values, State, Limits, Stop, wrong, out-of-fuel, no-heap, no-stack, no-turns, Res, stop, Shape, here, list-of, root-of, read-at, place-of, shape-of, eval, evals, calls, bodies, tails, by-shape, execs, block, exec, by-alt, ends, drops, lasts, parts-of, drops-all, run}
+use Rattle.language.specs.Meaning.{Loc, Value, Values, State, Limits, Stop, wrong, out-of-fuel, no-heap, no-stack, no-turns, Res, stop, Shape, here}
+use Rattle.language.specs.Meaning.{list-of, root-of, read-at, place-of, shape-of, eval, evals, calls, bodies, tails, by-shape, execs, block, exec}
+use Rattle.language.specs.Meaning.{by-alt, ends, drops, lasts, parts-of, drops-all, run}
 use Rattle.language.specs.Meaning as me
 use Rattle.soundness.specs.Borrows.{In, Level-loan, loans-of}
 use Rattle.soundness.specs.Trees.{Tree, flat, Typed}
 use Rattle.soundness.specs.Invariant.{in-flight, Entry, kinds, Invariant}
-use Rattle.soundness.specs.Frames.{Loans-cover, Scope, Value-entry, all-loans-of, Arguments, Roots-named, No-borrows, Dropping, Frame, Ref-params, owned-entry}
+use Rattle.soundness.specs.Frames.{Loans-cover, Scope, Value-entry, all-loans-of, Arguments, Roots-named, No-borrows, Dropping, Frame, Ref-params}
+use Rattle.soundness.specs.Frames.{owned-entry}
 
 -- what doesn't go wrong
 abbrev pub Not-wrong : Stop → Type 0

@@ -17,7 +17,8 @@ use Rattle.soundness.specs.Borrows.{In, Level-loan, loans-of}
 use Rattle.soundness.specs.Trees.{Tree}
 use Rattle.soundness.specs.Invariant.{Entry, Invariant}
 use Rattle.soundness.specs.Frames.{Kind-fits, Scope, Value-entry, all-loans-of, Arguments, no-args, snoc-arg}
-use Rattle.soundness.proofs.Basics.{no-some, some-is, bool-case, true-false, and-left, and-right, or-case, same-is, same-self, in-left, in-right, not-true}
+use Rattle.soundness.proofs.Basics.{no-some, some-is, bool-case, true-false, and-left, and-right, or-case, same-is, same-self, in-left, in-right}
+use Rattle.soundness.proofs.Basics.{not-true}
 use Rattle.soundness.proofs.invariant.Top.{with-root}
 use Rattle.soundness.proofs.invariant.Rooting.{root-mid}
 

@@ -13,7 +13,8 @@ use Rattle.language.specs.Checks.{Loan}
 use Rattle.language.specs.Checks as ch
 use Rattle.language.specs.Meaning.{Value, Root, State}
 use Rattle.language.specs.Meaning as me
-use Rattle.soundness.specs.Borrows.{In, Addr, Level-loan, Kind, own, borrow, inert, at-level, loans-of, addr-of, Comparable, Has-loan, owner-at, Well-borrowed, Lent}
+use Rattle.soundness.specs.Borrows.{In, Addr, Level-loan, Kind, own, borrow, inert, at-level, loans-of, addr-of, Comparable, Has-loan, owner-at}
+use Rattle.soundness.specs.Borrows.{Well-borrowed, Lent}
 use Rattle.soundness.specs.Trees.{Tree, tree-sum}
 use Rattle.soundness.specs.Invariant.{Place, rooted, Entry, kinds, places, Valid-ref, Idle, Entry-ok, Entries-ok, place-sum, stack-sum, Invariant}
 use Rattle.soundness.specs.Frames.{name-level, Loans-cover, Scope, Roots-named, No-borrows}

@@ -8,13 +8,19 @@ use native.Mathlib.Omega.{arith}
 use lib.Dec.{eqb}
 use lib.ListN.{length}
 use Rattle.language.specs.Base.{choose, Lexeme, same}
-use Rattle.language.specs.Syntax.{Expr, num, var, op, ctor, boxed, call, share, lend, load, get-e, Exprs, Access, Stmt, Stmts, Alts, Body, Tail, Arms, Fn, Prog, nil-e, cons-e, nil-s, cons-s, assign, store, bind, put-s, cond, loop, match-s, open-s, inside, body, give, give-cond, give-match, no-alts, alt, no-arms, arm}
+use Rattle.language.specs.Syntax.{Expr, num, var, op, ctor, boxed, call, share, lend, load, get-e, Exprs, Access, Stmt, Stmts, Alts, Body, Tail, Arms}
+use Rattle.language.specs.Syntax.{Fn, Prog, nil-e, cons-e, nil-s, cons-s, assign, store, bind, put-s, cond, loop, match-s, open-s, inside, body, give}
+use Rattle.language.specs.Syntax.{give-cond, give-match, no-alts, alt, no-arms, arm}
 use Rattle.language.specs.Checks.{fn-named, w-main}
-use Rattle.language.specs.Meaning.{Loc, Value, int-v, con-v, Values, State, Limits, out-of-fuel, Res, stop, Shape, here, list-of, eval, evals, calls, bodies, tails, by-shape, execs, block, exec, by-alt, ends, drops, lasts, parts-of, drops-all, run, blank, box-v, ref-v, hole, nil-v, cons-v, adds-root, moves, ok, Env, shape, roots-in, makes-box, newer, parts, Found, FoundArm, find-alt, find-arm}
+use Rattle.language.specs.Meaning.{Loc, Value, int-v, con-v, Values, State, Limits, out-of-fuel, Res, stop, Shape, here, list-of, eval, evals, calls}
+use Rattle.language.specs.Meaning.{bodies, tails, by-shape, execs, block, exec, by-alt, ends, drops, lasts, parts-of, drops-all, run, blank, box-v}
+use Rattle.language.specs.Meaning.{ref-v, hole, nil-v, cons-v, adds-root, moves, ok, Env, shape, roots-in, makes-box, newer, parts, Found, FoundArm}
+use Rattle.language.specs.Meaning.{find-alt, find-arm}
 use Rattle.language.specs.Says.{Enough-fuel}
 use Rattle.soundness.specs.Fuel.{Fuel-for-any}
 use Rattle.soundness.proofs.fuel.Kept.{≼-trans, write-at-keeps, taken-keeps, kill-keeps, ends-box-keeps, roots-in-keeps}
-use Rattle.soundness.proofs.fuel.Halting.{Settled-well, well-ok, well-stop, Halts, at-once, ok-halts, step, weaken, then-halts, need-halts, choose-halts, Room, Less, less-room, lower-room, turn-halts, call-under, drop-under, room-by}
+use Rattle.soundness.proofs.fuel.Halting.{Settled-well, well-ok, well-stop, Halts, at-once, ok-halts, step, weaken, then-halts, need-halts}
+use Rattle.soundness.proofs.fuel.Halting.{choose-halts, Room, Less, less-room, lower-room, turn-halts, call-under, drop-under, room-by}
 
 module _ (m : Limits) (q : Prog) where
   pub record Level (T : ℕ) : Type 0 where

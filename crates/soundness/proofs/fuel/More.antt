@@ -1,9 +1,12 @@
 -- More-fuel: each function of the meaning, with more fuel, gives the same, or it was out of fuel.
 use mathlib.Core.List.{List, [], _∷_}
 use Prim.Native.Nat.{ℕ, _≤_, zero-le, suc-le-suc}
-use Rattle.language.specs.Syntax.{Expr, num, var, op, ctor, boxed, call, share, lend, load, get-e, Exprs, Access, Stmt, Stmts, Alts, Body, Tail, Arms, Fn, Prog, nil-e, cons-e, nil-s, cons-s, assign, store, bind, put-s, cond, loop, match-s, open-s, inside, body, give, give-cond, give-match}
+use Rattle.language.specs.Syntax.{Expr, num, var, op, ctor, boxed, call, share, lend, load, get-e, Exprs, Access, Stmt, Stmts, Alts, Body, Tail, Arms}
+use Rattle.language.specs.Syntax.{Fn, Prog, nil-e, cons-e, nil-s, cons-s, assign, store, bind, put-s, cond, loop, match-s, open-s, inside, body, give}
+use Rattle.language.specs.Syntax.{give-cond, give-match}
 use Rattle.language.specs.Checks.{fn-named, w-main}
-use Rattle.language.specs.Meaning.{Loc, Value, int-v, con-v, Values, State, Limits, Shape, eval, evals, calls, bodies, tails, by-shape, execs, block, exec, by-alt, ends, drops, lasts, parts-of, drops-all, blank, box-v, ref-v, hole, nil-v, cons-v, Env, shape}
+use Rattle.language.specs.Meaning.{Loc, Value, int-v, con-v, Values, State, Limits, Shape, eval, evals, calls, bodies, tails, by-shape, execs, block}
+use Rattle.language.specs.Meaning.{exec, by-alt, ends, drops, lasts, parts-of, drops-all, blank, box-v, ref-v, hole, nil-v, cons-v, Env, shape}
 use Rattle.language.specs.Says.{More-fuel}
 use Rattle.soundness.proofs.fuel.Below.{_⊑_, is-late, alike, then-⊑, need-⊑, choose-⊑, turn-⊑, under-⊑, not-late}
 

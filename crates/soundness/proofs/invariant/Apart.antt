@@ -11,9 +11,11 @@ use Rattle.language.specs.Base.{choose, from-option, at-place, set-at, Lexeme}
 use Rattle.language.specs.Syntax.{Ty, Data}
 use Rattle.language.specs.Meaning.{Value, Root, State, hole, Class, with-roots, with-classes, kill, ends-box, count-out}
 use Rattle.language.specs.Says.{boxes}
-use Rattle.soundness.specs.Trees.{Tree, con-t, box-t, hole-t, Trees, nil-t, cons-t, flat, flats, tree-sum, trees-sum, Stored, Stored-all, Typed, Typed-all}
+use Rattle.soundness.specs.Trees.{Tree, con-t, box-t, hole-t, Trees, nil-t, cons-t, flat, flats, tree-sum, trees-sum, Stored, Stored-all, Typed}
+use Rattle.soundness.specs.Trees.{Typed-all}
 use Rattle.soundness.specs.Borrows.{inert, Well-borrowed}
-use Rattle.soundness.specs.Invariant.{rooted, in-flight, Entry, kinds, Idle, Entries-ok, place-sum, stack-sum, live-sum, in-use-of, of-size, is-box, Invariant}
+use Rattle.soundness.specs.Invariant.{rooted, in-flight, Entry, kinds, Idle, Entries-ok, place-sum, stack-sum, live-sum, in-use-of, of-size, is-box}
+use Rattle.soundness.specs.Invariant.{Invariant}
 use Rattle.soundness.specs.Frames.{Dropping, owned-entry}
 use Rattle.soundness.proofs.memory.Paths.{mark, mark-self}
 use Rattle.soundness.proofs.loans.Free.{push-own, push-inert, pop-borrows}

@@ -11,7 +11,8 @@ use Rattle.language.specs.Base.{if-some}
 use Rattle.language.specs.Syntax.{Ty, Data}
 use Rattle.language.specs.Meaning.{Value, State, here, read-at}
 use Rattle.soundness.specs.Trees.{Tree, hole-t, flat, Stored, loc-down}
-use Rattle.soundness.specs.Borrows.{Addr, Level-loan, Kind, own, borrow, inert, at-level, exclusive, addr-of, Prefix, Exclusivity, Anchored1, Anchored}
+use Rattle.soundness.specs.Borrows.{Addr, Level-loan, Kind, own, borrow, inert, at-level, exclusive, addr-of, Prefix, Exclusivity, Anchored1}
+use Rattle.soundness.specs.Borrows.{Anchored}
 use Rattle.soundness.specs.Invariant.{rooted, in-flight, Entry, kinds, Valid-ref, Entry-ok, Invariant}
 use Rattle.soundness.proofs.Basics.{no-some, some-is, true-false}
 use Rattle.soundness.proofs.loans.Levels.{level-case, level-below, level-push}

@@ -14,7 +14,8 @@ use Rattle.language.specs.Checks.{home-of, owned, size, size-of, Home}
 use Rattle.language.specs.Checks as ch
 use Rattle.language.specs.Meaning.{Value, Values, Root, State, append, nil-v, cons-v, Class, with-classes, adds-root, count-in, words-of}
 use Rattle.language.specs.Says.{boxes}
-use Rattle.soundness.specs.Trees.{Tree, int-t, con-t, box-t, hole-t, Trees, nil-t, cons-t, flat, flats, tree-sum, trees-sum, Stored, Stored-all, words-in, Typed, Typed-all}
+use Rattle.soundness.specs.Trees.{Tree, int-t, con-t, box-t, hole-t, Trees, nil-t, cons-t, flat, flats, tree-sum, trees-sum, Stored, Stored-all}
+use Rattle.soundness.specs.Trees.{words-in, Typed, Typed-all}
 use Rattle.soundness.specs.Invariant.{in-flight, Entry, kinds, Entries-ok, place-sum, stack-sum, in-use-of, of-size, is-box, Invariant}
 use Rattle.soundness.specs.Frames.{Arguments, no-args, snoc-arg, owned-entry}
 use Rattle.soundness.proofs.Basics.{and-left, and-right}

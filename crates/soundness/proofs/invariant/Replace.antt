@@ -12,9 +12,11 @@ use Rattle.language.specs.Checks.{owned}
 use Rattle.language.specs.Meaning.{Loc, Value, Root, State, here, ref-v}
 use Rattle.soundness.specs.Trees.{Tree, box-t, hole-t, flat, tree-sum, Stored, Typed, Path, child, set-child, subtree, replace, loc-step, loc-down}
 use Rattle.soundness.specs.Borrows.{Addr, Level-loan, Kind, own, borrow, inert, at-level, Well-borrowed}
-use Rattle.soundness.specs.Invariant.{Place, rooted, in-flight, Entry, kinds, places, Content, Valid-ref, Entry-ok, Entries-ok, place-sum, stack-sum, in-use-of, of-size, is-box, Invariant}
+use Rattle.soundness.specs.Invariant.{Place, rooted, in-flight, Entry, kinds, places, Content, Valid-ref, Entry-ok, Entries-ok, place-sum, stack-sum}
+use Rattle.soundness.specs.Invariant.{in-use-of, of-size, is-box, Invariant}
 use Rattle.soundness.proofs.Basics.{some-is, if-some-is, order-case}
-use Rattle.soundness.proofs.memory.Paths.{mark, mark-self, replace-step, loc-down-step, subtree-step, sum-replace, Outcome, same-root, in-a-box, outcome, stored-other, stored-box, stored-replace}
+use Rattle.soundness.proofs.memory.Paths.{mark, mark-self, replace-step, loc-down-step, subtree-step, sum-replace, Outcome, same-root, in-a-box}
+use Rattle.soundness.proofs.memory.Paths.{outcome, stored-other, stored-box, stored-replace}
 use Rattle.soundness.proofs.memory.Typing.{child-set-same, loc-step-set, Ref-stays}
 use Rattle.soundness.proofs.loans.Levels.{level-top, level-below, level-push}
 use Rattle.soundness.proofs.loans.Free.{push-own, pop-borrows}

@@ -11,7 +11,8 @@ use Rattle.language.specs.Syntax.{Ty, Data}
 use Rattle.language.specs.Meaning.{Value, Root, State, adds-root}
 use Rattle.soundness.specs.Trees.{Tree, tree-sum}
 use Rattle.soundness.specs.Borrows.{Addr, Kind, own, borrow, inert, at-level, Well-borrowed}
-use Rattle.soundness.specs.Invariant.{Place, rooted, in-flight, Entry, kinds, places, Valid-ref, Entry-ok, Entries-ok, place-sum, stack-sum, of-size, is-box, Invariant}
+use Rattle.soundness.specs.Invariant.{Place, rooted, in-flight, Entry, kinds, places, Valid-ref, Entry-ok, Entries-ok, place-sum, stack-sum, of-size}
+use Rattle.soundness.specs.Invariant.{is-box, Invariant}
 use Rattle.soundness.proofs.Basics.{some-is}
 use Rattle.soundness.proofs.memory.Paths.{mark}
 use Rattle.soundness.proofs.memory.Roots.{sum-push, at-push, at-last, no-size, sum-high}

@@ -15,7 +15,8 @@ use Rattle.language.specs.Meaning as me
 use Rattle.language.specs.Says.{boxes}
 use Rattle.soundness.specs.Trees.{Tree, int-t, con-t, box-t, hole-t, Trees, nil-t, cons-t, flat, tree-sum, Stored, Stored-all, Typed}
 use Rattle.soundness.specs.Borrows.{Kind, own, borrow, inert}
-use Rattle.soundness.specs.Invariant.{Place, rooted, in-flight, Entry, kinds, Holds, Content, Entry-ok, Entries-ok, place-sum, stack-sum, live-sum, in-use-of, of-size, is-box, Invariant}
+use Rattle.soundness.specs.Invariant.{Place, rooted, in-flight, Entry, kinds, Holds, Content, Entry-ok, Entries-ok, place-sum, stack-sum, live-sum}
+use Rattle.soundness.specs.Invariant.{in-use-of, of-size, is-box, Invariant}
 use Rattle.soundness.specs.Frames.{Kind-fits, Value-entry, owned-entry}
 use Rattle.soundness.proofs.memory.Paths.{mark, mark-self}
 use Rattle.soundness.proofs.loans.Free.{push-own, pop-borrows}

@@ -9,7 +9,8 @@ use native.Mathlib.Omega.{arith}
 use lib.ListN.{length}
 use Rattle.language.specs.Base.{from-option, if-some}
 use Rattle.language.specs.Syntax.{Ty}
-use Rattle.soundness.specs.Borrows.{Addr, Exclusivity, Comparable, Anchored, Anchored1, Lent, Level-loan, Prefix, Well-borrowed, Kind, addr-of, owner-at, exclusive, inert, at-level, own, borrow}
+use Rattle.soundness.specs.Borrows.{Addr, Exclusivity, Comparable, Anchored, Anchored1, Lent, Level-loan, Prefix, Well-borrowed, Kind, addr-of}
+use Rattle.soundness.specs.Borrows.{owner-at, exclusive, inert, at-level, own, borrow}
 use Rattle.soundness.specs.Trees.{Strictly-below}
 use Rattle.soundness.proofs.Basics.{no-some, some-is, order-case}
 use Rattle.soundness.proofs.loans.Levels.{level-push, level-case, level-below, path-longer}

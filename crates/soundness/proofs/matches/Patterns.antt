@@ -14,7 +14,8 @@ use Rattle.language.specs.Checks as ch
 use Rattle.language.specs.Meaning.{Loc, Value, State, here, ref-v, adds-root, Name, roots-in, names-in, refs-to}
 use Rattle.language.specs.Meaning as me
 use Rattle.soundness.specs.Borrows.{In, Addr, Level-loan, Kind, own, borrow, at-level, exclusive, loans-of, addr-of, Comparable, Has-loan, owner-at}
-use Rattle.soundness.specs.Trees.{Tree, con-t, hole-t, Trees, nil-t, cons-t, flats, Typed-all, Step, field-step, Path, nth-t, child, subtree, loc-step, loc-down}
+use Rattle.soundness.specs.Trees.{Tree, con-t, hole-t, Trees, nil-t, cons-t, flats, Typed-all, Step, field-step, Path, nth-t, child, subtree}
+use Rattle.soundness.specs.Trees.{loc-step, loc-down}
 use Rattle.soundness.specs.Invariant.{rooted, Entry, kinds, places, Valid-ref, Invariant}
 use Rattle.soundness.specs.Frames.{Loans-cover, Kind-fits, Scope}
 use Rattle.soundness.proofs.Basics.{no-some, some-is, if-some-is, only-is}

@@ -10,7 +10,8 @@ use Rattle.language.specs.Base.{Lexeme}
 use Rattle.language.specs.Syntax.{Ty, dat, Data, Prog, take}
 use Rattle.language.specs.Checks.{Var, Matched, owned, look, fresh, set-gone, enter, is-free, all-loans, bind-all, data-named}
 use Rattle.language.specs.Checks as ch
-use Rattle.language.specs.Meaning.{Loc, Value, con-v, Values, Root, State, here, list-of, read-at, place-of, shape-of, hole, adds-root, write-at, shape}
+use Rattle.language.specs.Meaning.{Loc, Value, con-v, Values, Root, State, here, list-of, read-at, place-of, shape-of, hole, adds-root, write-at}
+use Rattle.language.specs.Meaning.{shape}
 use Rattle.language.specs.Meaning as me
 use Rattle.soundness.specs.Trees.{Tree, int-t, con-t, box-t, hole-t, Trees, nil-t, cons-t, flat, flats, Stored, Typed, Typed-all}
 use Rattle.soundness.specs.Borrows.{Level-loan, own}

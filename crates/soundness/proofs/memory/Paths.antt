@@ -9,7 +9,8 @@ use native.Mathlib.Omega.{arith}
 use lib.Dec.{eqb, T, eqb-refl}
 use Rattle.language.specs.Base.{choose, from-option, if-some, at-place, set-at, Lexeme}
 use Rattle.language.specs.Meaning.{Loc, Value, int-v, con-v, Values, Root, here, box-v, ref-v, hole, nil-v, cons-v, at-path, nth-v, put-path, put-v}
-use Rattle.soundness.specs.Trees.{Tree, int-t, con-t, box-t, hole-t, Trees, nil-t, cons-t, flat, flats, tree-sum, trees-sum, Stored, Stored-all, Step, field-step, box-step, Path, nth-t, put-t, child, set-child, subtree, replace, loc-step, loc-down}
+use Rattle.soundness.specs.Trees.{Tree, int-t, con-t, box-t, hole-t, Trees, nil-t, cons-t, flat, flats, tree-sum, trees-sum, Stored, Stored-all, Step}
+use Rattle.soundness.specs.Trees.{field-step, box-step, Path, nth-t, put-t, child, set-child, subtree, replace, loc-step, loc-down}
 use Rattle.soundness.proofs.Basics.{no-some, some-is, if-some-is, append-nil}
 
 -- the list of roots

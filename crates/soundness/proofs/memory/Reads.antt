@@ -5,7 +5,8 @@ use mathlib.Core.Path.{_≡_, refl, _∙_, ap, subst}
 use Prim.Native.Nat.{ℕ, zero, suc, _+_}
 use Rattle.language.specs.Base.{choose, if-some}
 use Rattle.language.specs.Meaning.{Loc, Value, Root, State, read-at, live-root, at-path}
-use Rattle.soundness.specs.Trees.{Tree, int-t, con-t, box-t, hole-t, Trees, nil-t, cons-t, flat, Stored, Stored-all, Step, field-step, box-step, Path, nth-t, child, subtree, loc-step, loc-down}
+use Rattle.soundness.specs.Trees.{Tree, int-t, con-t, box-t, hole-t, Trees, nil-t, cons-t, flat, Stored, Stored-all, Step, field-step, box-step, Path}
+use Rattle.soundness.specs.Trees.{nth-t, child, subtree, loc-step, loc-down}
 use Rattle.soundness.proofs.Basics.{no-some, some-is, if-some-is}
 use Rattle.soundness.proofs.memory.Paths.{at-path-then, nth-flats, loc-down-step, extend}
 

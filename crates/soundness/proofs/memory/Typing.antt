@@ -7,7 +7,8 @@ use Prim.Native.Nat.{ℕ, zero, suc}
 use native.Mathlib.Omega.{arith}
 use Rattle.language.specs.Syntax.{Ty, int, dat, box, ref, mut, Data}
 use Rattle.language.specs.Meaning.{Loc}
-use Rattle.soundness.specs.Trees.{Tree, int-t, con-t, box-t, hole-t, Trees, nil-t, cons-t, Typed, Typed-all, Step, field-step, box-step, Path, nth-t, put-t, child, set-child, subtree, replace, loc-step, loc-down, Strictly-below}
+use Rattle.soundness.specs.Trees.{Tree, int-t, con-t, box-t, hole-t, Trees, nil-t, cons-t, Typed, Typed-all, Step, field-step, box-step, Path, nth-t}
+use Rattle.soundness.specs.Trees.{put-t, child, set-child, subtree, replace, loc-step, loc-down, Strictly-below}
 use Rattle.soundness.proofs.Basics.{no-some, some-is, if-some-is, order-case}
 use Rattle.soundness.proofs.memory.Paths.{replace-step, loc-down-step, subtree-step}
 

@@ -1,12 +1,16 @@
 -- What is shown only grows: nothing is asked of the numbers, and what was shown before is a front of what is shown.
 use mathlib.Core.List.{List, [], _∷_, _++_}
 use Prim.Native.Nat.{ℕ}
-use Rattle.language.specs.Syntax.{Expr, num, var, op, ctor, boxed, call, share, lend, load, get-e, Exprs, nil-e, cons-e, Stmt, bind, assign, store, put-s, cond, loop, match-s, open-s, inside, Stmts, nil-s, cons-s, Alts, no-alts, alt, Body, body, Tail, give, give-cond, give-match, Arms, no-arms, arm, Fn, Prog}
+use Rattle.language.specs.Syntax.{Expr, num, var, op, ctor, boxed, call, share, lend, load, get-e, Exprs, nil-e, cons-e, Stmt, bind, assign, store}
+use Rattle.language.specs.Syntax.{put-s, cond, loop, match-s, open-s, inside, Stmts, nil-s, cons-s, Alts, no-alts, alt, Body, body, Tail, give}
+use Rattle.language.specs.Syntax.{give-cond, give-match, Arms, no-arms, arm, Fn, Prog}
 use Rattle.language.specs.Meaning.{Value, int-v, con-v, box-v, ref-v, hole, Values, nil-v, cons-v, Root, State, Res, Shape, shape}
 use Rattle.language.specs.Says.{Front, none-yet, and-so}
-use Rattle.soundness.specs.Numbers.{Every, Numbers, Numbers-of, Shape-numbers, State-numbers, Literals-e, Literals-es, Literals-s, Literals-ss, Literals-alts, Literals-body, Literals-tail, Literals-arms, Literals, outs-behind, Shown-grows}
+use Rattle.soundness.specs.Numbers.{Every, Numbers, Numbers-of, Shape-numbers, State-numbers, Literals-e, Literals-es, Literals-s, Literals-ss}
+use Rattle.soundness.specs.Numbers.{Literals-alts, Literals-body, Literals-tail, Literals-arms, Literals, outs-behind, Shown-grows}
 use Rattle.soundness.proofs.numbers.Meets.{Meets, by-ok, by-stop}
-use Rattle.soundness.proofs.numbers.Keeps.{Closed, eval-meets, evals-meets, calls-meets, bodies-meets, tails-meets, by-shape-meets, execs-meets, block-meets, exec-meets, by-alt-meets, ends-meets, drops-meets, lasts-meets, parts-meets, drops-all-meets}
+use Rattle.soundness.proofs.numbers.Keeps.{Closed, eval-meets, evals-meets, calls-meets, bodies-meets, tails-meets, by-shape-meets, execs-meets}
+use Rattle.soundness.proofs.numbers.Keeps.{block-meets, exec-meets, by-alt-meets, ends-meets, drops-meets, lasts-meets, parts-meets, drops-all-meets}
 
 front-self : (os : List ℕ) → Front os os
 front-self [] = none-yet

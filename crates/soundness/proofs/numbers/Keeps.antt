@@ -8,12 +8,19 @@ use native.Mathlib.Omega.{arith}
 use lib.Dec.{eqb}
 use lib.ListN.{length}
 use Rattle.language.specs.Base.{choose, if-some, Lexeme, same}
-use Rattle.language.specs.Syntax.{Expr, num, var, op, ctor, boxed, call, share, lend, load, get-e, Exprs, nil-e, cons-e, Access, Stmt, bind, assign, store, put-s, cond, loop, match-s, open-s, inside, Stmts, nil-s, cons-s, Alts, no-alts, alt, Body, body, Tail, give, give-cond, give-match, Arms, no-arms, arm, Fn, Prog}
+use Rattle.language.specs.Syntax.{Expr, num, var, op, ctor, boxed, call, share, lend, load, get-e, Exprs, nil-e, cons-e, Access, Stmt, bind, assign}
+use Rattle.language.specs.Syntax.{store, put-s, cond, loop, match-s, open-s, inside, Stmts, nil-s, cons-s, Alts, no-alts, alt, Body, body, Tail, give}
+use Rattle.language.specs.Syntax.{give-cond, give-match, Arms, no-arms, arm, Fn, Prog}
 use Rattle.language.specs.Checks.{fn-named}
-use Rattle.language.specs.Meaning.{Loc, Value, int-v, con-v, box-v, ref-v, hole, Values, nil-v, cons-v, State, Limits, Env, Shape, shape, Found, FoundArm, two-64, worked, next-read, here, read-at, write-at, place-of, shape-of, num-of, there, moves, makes-box, adds-root, kill, ends-box, with-under, append, list-of, parts, find-alt, find-arm, frame, newer, eval, evals, calls, bodies, tails, by-shape, execs, block, exec, by-alt, ends, drops, lasts, parts-of, drops-all}
-use Rattle.soundness.specs.Numbers.{Every, Numbers, Numbers-of, Shape-numbers, State-numbers, Literals-e, Literals-es, Literals-s, Literals-ss, Literals-alts, Literals-body, Literals-tail, Literals-arms, Literals, Numbers-kept}
+use Rattle.language.specs.Meaning.{Loc, Value, int-v, con-v, box-v, ref-v, hole, Values, nil-v, cons-v, State, Limits, Env, Shape, shape, Found}
+use Rattle.language.specs.Meaning.{FoundArm, two-64, worked, next-read, here, read-at, write-at, place-of, shape-of, num-of, there, moves, makes-box}
+use Rattle.language.specs.Meaning.{adds-root, kill, ends-box, with-under, append, list-of, parts, find-alt, find-arm, frame, newer, eval, evals}
+use Rattle.language.specs.Meaning.{calls, bodies, tails, by-shape, execs, block, exec, by-alt, ends, drops, lasts, parts-of, drops-all}
+use Rattle.soundness.specs.Numbers.{Every, Numbers, Numbers-of, Shape-numbers, State-numbers, Literals-e, Literals-es, Literals-s, Literals-ss}
+use Rattle.soundness.specs.Numbers.{Literals-alts, Literals-body, Literals-tail, Literals-arms, Literals, Numbers-kept}
 use Rattle.soundness.proofs.Basics.{no-some, some-is, if-some-is}
-use Rattle.soundness.proofs.numbers.Memory.{append-numbers, list-numbers, parts-numbers, read-numbers, write-numbers, push-numbers, kill-numbers, end-box-numbers, roots-numbers, taken-numbers}
+use Rattle.soundness.proofs.numbers.Memory.{append-numbers, list-numbers, parts-numbers, read-numbers, write-numbers, push-numbers, kill-numbers}
+use Rattle.soundness.proofs.numbers.Memory.{end-box-numbers, roots-numbers, taken-numbers}
 use Rattle.soundness.proofs.numbers.Meets.{Meets, by-ok, by-stop, behind, then-meets, need-meets, choose-meets, turned, turn-meets, under-meets}
 
 -- L is kept by arithmetic and holds of what is read; Q is kept where a number is shown, and where 'get' leaves its mark

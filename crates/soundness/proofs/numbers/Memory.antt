@@ -7,7 +7,9 @@ use Prim.Native.Nat.{ℕ, zero, suc}
 use native.Mathlib.Omega.{arith}
 use Rattle.language.specs.Base.{choose, from-option, if-some, at-place, set-at}
 use Rattle.language.specs.Syntax.{Access, take, view, edit}
-use Rattle.language.specs.Meaning.{Loc, Value, int-v, con-v, box-v, ref-v, hole, Values, nil-v, cons-v, Root, State, nth-v, put-v, at-path, put-path, read-at, write-at, adds-root, kill, ends-box, with-classes, append, list-of, roots-in, refs-to, parts, taken, count-out}
+use Rattle.language.specs.Meaning.{Loc, Value, int-v, con-v, box-v, ref-v, hole, Values, nil-v, cons-v, Root, State, nth-v, put-v, at-path, put-path}
+use Rattle.language.specs.Meaning.{read-at, write-at, adds-root, kill, ends-box, with-classes, append, list-of, roots-in, refs-to, parts, taken}
+use Rattle.language.specs.Meaning.{count-out}
 use Rattle.soundness.specs.Numbers.{Every, Numbers, Numbers-of, State-numbers}
 use Rattle.soundness.proofs.Basics.{no-some, some-is, if-some-is}
 

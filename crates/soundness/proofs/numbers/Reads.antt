@@ -6,10 +6,12 @@ use mathlib.Core.Path.{_≡_, refl, sym, subst}
 use Prim.Native.Nat.{ℕ, zero, suc, _+_}
 use lib.Dec.{eqb, ltb, T, ltb→lt}
 use Rattle.language.specs.Base.{choose, from-option, if-some, Lexeme, same}
-use Rattle.language.specs.Syntax.{Expr, num, op, Exprs, Stmt, bind, assign, store, put-s, open-s, inside, Stmts, Alts, Body, Tail, Arms, Data, Fn, Prog}
+use Rattle.language.specs.Syntax.{Expr, num, op, Exprs, Stmt, bind, assign, store, put-s, open-s, inside, Stmts, Alts, Body, Tail, Arms, Data, Fn}
+use Rattle.language.specs.Syntax.{Prog}
 use Rattle.language.specs.Text.{Found, found, go-on, expect}
 use Rattle.language.specs.Text as tx
-use Rattle.soundness.specs.Numbers.{Every, Literals-e, Literals-es, Literals-s, Literals-ss, Literals-alts, Literals-body, Literals-tail, Literals-arms, Literals, Word}
+use Rattle.soundness.specs.Numbers.{Every, Literals-e, Literals-es, Literals-s, Literals-ss, Literals-alts, Literals-body, Literals-tail}
+use Rattle.soundness.specs.Numbers.{Literals-arms, Literals, Word}
 
 -- of what is read, if anything is
 abbrev Reads : {A : Type 0} → (A → Type 0) → Option (Found A) → Type 0

@@ -8,7 +8,8 @@ use lib.Dec.{leb}
 use lib.ListN.{length}
 use Rattle.language.specs.Base.{choose, from-option, Lexeme, same, is-in, each-of, no-twice}
 use Rattle.language.specs.Syntax.{Ty, Access, Alts, Arms, Data, Prog, Ctor, no-alts, alt, no-arms, arm}
-use Rattle.language.specs.Checks.{Loan, home-of, Home, Env, bind-all, data-named, ctor-named, is-body, covers, alt-names, names-of-datas, names-of-ctors, arm-names, are-arms}
+use Rattle.language.specs.Checks.{Loan, home-of, Home, Env, bind-all, data-named, ctor-named, is-body, covers, alt-names, names-of-datas}
+use Rattle.language.specs.Checks.{names-of-ctors, arm-names, are-arms}
 use Rattle.language.specs.Meaning.{Found, FoundArm, find-alt, find-arm}
 use Rattle.soundness.specs.Borrows.{In}
 use Rattle.soundness.proofs.Basics.{no-some, some-is, true-false, or-right, and-left, and-right, or-case, same-is, same-self, each-in}

@@ -7,7 +7,8 @@ use Prim.Native.Nat.{ℕ}
 use native.Mathlib.Omega.{arith}
 use Rattle.language.specs.Base.{Lexeme}
 use Rattle.language.specs.Syntax.{Ty, int, dat, box, mut, Expr, op, ctor, boxed, call, lend, load, Exprs, cons-e, Fn, Prog}
-use Rattle.language.specs.Checks.{Loan, Var, Env, Typed, Home, loan, there, owned, loadable, is-free, all-loans, holds, types-of-pars, home-of, fn-named, typed, expr, args}
+use Rattle.language.specs.Checks.{Loan, Var, Env, Typed, Home, loan, there, owned, loadable, is-free, all-loans, holds, types-of-pars, home-of}
+use Rattle.language.specs.Checks.{fn-named, typed, expr, args}
 use Rattle.soundness.proofs.Basics.{only-is, if-some-is, and-left, and-right}
 use Rattle.soundness.proofs.statics.Rules.{same-ty-is, with-ty-is}
 

@@ -6,7 +6,8 @@ use mathlib.Core.Path.{_≡_, refl, sym, _∙_, ap, subst}
 use Prim.Native.Nat.{suc}
 use lib.ListN.{length}
 use Rattle.language.specs.Base.{choose, Lexeme, same}
-use Rattle.language.specs.Syntax.{Ty, int, dat, box, ref, mut, Expr, num, var, op, ctor, boxed, call, share, lend, load, get-e, Exprs, Prog, nil-e, cons-e}
+use Rattle.language.specs.Syntax.{Ty, int, dat, box, ref, mut, Expr, num, var, op, ctor, boxed, call, share, lend, load, get-e, Exprs, Prog, nil-e}
+use Rattle.language.specs.Syntax.{cons-e}
 use Rattle.language.specs.Checks.{Loan, Var, types-of-pars, loan, Env, look, set-gone, typed, value, shared, Typed, there, expr, holds, args}
 use Rattle.language.specs.Checks as ch
 use Rattle.soundness.proofs.Basics.{no-some, some-is, if-some-is, only-is, true-false, same-is}

@@ -6,7 +6,8 @@ use mathlib.Core.Path.{_≡_, refl, sym, _∙_, ap, subst}
 use Prim.Native.Nat.{ℕ}
 use Rattle.language.specs.Base.{choose, from-option, Lexeme, same, only-if, present}
 use Rattle.language.specs.Syntax.{Ty, int, dat, box, ref, mut, Access, Data, Prog, take, view, edit}
-use Rattle.language.specs.Checks.{Loan, Var, Matched, loan, Env, look, fresh, set-gone, enter, outer, both, no-more-gone, bind-all, ref-of, looks-at, matched, data-of, data-named}
+use Rattle.language.specs.Checks.{Loan, Var, Matched, loan, Env, look, fresh, set-gone, enter, outer, both, no-more-gone, bind-all, ref-of, looks-at}
+use Rattle.language.specs.Checks.{matched, data-of, data-named}
 use Rattle.language.specs.Meaning as me
 use Rattle.soundness.specs.Borrows.{Level-loan}
 use Rattle.soundness.specs.Invariant.{Entry}

@@ -5,8 +5,10 @@ use mathlib.Core.Option.{some}
 use mathlib.Core.Path.{_≡_, refl}
 use native.Mathlib.Omega.{arith}
 use Rattle.language.specs.Base.{Lexeme}
-use Rattle.language.specs.Syntax.{Ty, int, dat, box, ref, mut, Expr, Access, bind, assign, store, put-s, cond, loop, match-s, open-s, inside, Stmts, Alts, Prog}
-use Rattle.language.specs.Checks.{Var, Env, Typed, Matched, look, there, owned, is-free, all-loans, set-gone, enter, fresh, expr, stmt, stmts, alts, outer, both, no-more-gone, looks-at, covers, alt-names, boxed-in, goes-in, stores, same-ty}
+use Rattle.language.specs.Syntax.{Ty, int, dat, box, ref, mut, Expr, Access, bind, assign, store, put-s, cond, loop, match-s, open-s, inside, Stmts}
+use Rattle.language.specs.Syntax.{Alts, Prog}
+use Rattle.language.specs.Checks.{Var, Env, Typed, Matched, look, there, owned, is-free, all-loans, set-gone, enter, fresh, expr, stmt, stmts, alts}
+use Rattle.language.specs.Checks.{outer, both, no-more-gone, looks-at, covers, alt-names, boxed-in, goes-in, stores, same-ty}
 use Rattle.soundness.proofs.Basics.{some-is, only-is, if-some-is, and-left, and-right, no-some}
 use Rattle.soundness.proofs.statics.Rules.{there-is, same-ty-is}
 

@@ -4,13 +4,16 @@ use mathlib.Core.List.{List, [], _∷_, _++_}
 use mathlib.Core.Option.{Option, some}
 use mathlib.Core.Path.{_≡_, refl, _∙_, subst}
 use Rattle.language.specs.Base.{choose, if-some, Lexeme, same}
-use Rattle.language.specs.Syntax.{Ty, int, dat, box, ref, mut, Access, Stmt, Stmts, Alts, Data, Prog, nil-s, cons-s, assign, store, bind, put-s, cond, loop, match-s, open-s, inside, Ctor, no-alts, alt}
-use Rattle.language.specs.Checks.{Loan, Var, loan, Env, set-gone, enter, outer, both, bind-all, ctor-named, stmt, stmts, alts, goes-in, boxed-in, is-no-alts}
+use Rattle.language.specs.Syntax.{Ty, int, dat, box, ref, mut, Access, Stmt, Stmts, Alts, Data, Prog, nil-s, cons-s, assign, store, bind, put-s, cond}
+use Rattle.language.specs.Syntax.{loop, match-s, open-s, inside, Ctor, no-alts, alt}
+use Rattle.language.specs.Checks.{Loan, Var, loan, Env, set-gone, enter, outer, both, bind-all, ctor-named, stmt, stmts, alts, goes-in, boxed-in}
+use Rattle.language.specs.Checks.{is-no-alts}
 use Rattle.language.specs.Meaning as me
 use Rattle.soundness.proofs.Basics.{no-some, some-is, if-some-is, only-is, same-is}
 use Rattle.soundness.proofs.invariant.Flags.{Weaker}
 use Rattle.soundness.proofs.statics.Exprs.{Env-like, like-self, like-then, like-gone, expr-like, fresh-like}
-use Rattle.soundness.proofs.statics.Scopes.{Distinct, like-distinct, like-sym, both-like, both-left, both-right, Grows, grows-like, grows-then, fresh-none, grows-enter, outer-like, bind-grows, looks-like}
+use Rattle.soundness.proofs.statics.Scopes.{Distinct, like-distinct, like-sym, both-like, both-left, both-right, Grows, grows-like, grows-then}
+use Rattle.soundness.proofs.statics.Scopes.{fresh-none, grows-enter, outer-like, bind-grows, looks-like}
 use Rattle.soundness.proofs.statics.StmtRules.{bind-rule, assign-rule, store-rule, put-rule, cond-rule, loop-rule, match-rule, open-rule, inside-rule}
 
 goes-env : (g : Env) (v : Var) (x : Lexeme) (t : Ty) (h : Env) → goes-in g v x t ≡ some h → (u : Ty) × (ls : List Loan) × (enter g x u ls ≡ h)
