@@ -64,7 +64,7 @@ impl<'a> Lexer<'a> {
         ensures left { λ _. ⌜ left (now (self .exit)) ≡ skip-one (left (now (self .entry))) ⌝ }
         ensures text { λ _. ⌜ text-of (now (self .exit)) ≡ text-of (now (self .entry)) ⌝ }
     {
-        let token = self.token;
+        let token = self.peek();
         *self = Lexer::at(self.text, self.end);
         token
     }
