@@ -1,0 +1,4 @@
+-- A table of names.
+pub mod Hash
+pub mod Table
+pub mod Canonical
