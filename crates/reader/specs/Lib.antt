@@ -1,0 +1,3 @@
+-- The reader as a machine: its symbols, its steps, its run.
+pub mod Symbol
+pub mod Reader
