@@ -97,7 +97,7 @@ primary-within f t ts h =
 
 pub stmt-within : (f : ℕ) (t : Lexeme) (ts : List Lexeme) → 1 + 16 * suc (length ts) ≤ f →
     Within (suc (length ts)) (pred f) (20 * suc (length ts) + 1) (10 * suc (length ts) + 1)
-    (3 * suc (length ts) + 0) (suc (length ts) + 0) (step-stmt t ts)
+    (3 * suc (length ts) + 0) (suc (length ts) + 0) (step-stmt (t ∷ ts))
 stmt-within f t ts h =
     let P = Within (suc (length ts)) (pred f) (20 * suc (length ts) + 1) (10 * suc (length ts) + 1)
     (3 * suc (length ts) + 0) (suc (length ts) + 0) in

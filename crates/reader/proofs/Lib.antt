@@ -12,3 +12,4 @@ pub mod ReadRun
 pub mod TokenCount
 pub mod TokenCuts
 pub mod Peeks
+pub mod NextToken

@@ -120,7 +120,7 @@ module _ (R : List Lexeme → Option (Found Stmts)) (o : List Instr) where
   match-leaf w x a = grind (arith, append-assoc)
 
 stmt-ok : (f : ℕ) (t : Lexeme) (ts : List Lexeme) (o : List Instr) →
-    with-rest (read-statements (suc f)) o (read-statement (suc f) (t ∷ ts)) ≡ act f o (step-stmt t ts)
+    with-rest (read-statements (suc f)) o (read-statement (suc f) (t ∷ ts)) ≡ act f o (step-stmt (t ∷ ts))
 unfolding with-rest rest-of
 stmt-ok f t ts o =
     let R : List Lexeme → Option (Found Stmts) = read-statements (suc f) in

@@ -1,8 +1,16 @@
-ghost use Rattle.reader.specs.Reader.{«Reader-right»};
+mod action;
+mod ahead;
+mod cursor;
+mod error;
+mod expr;
+mod item;
+mod stmt;
+mod symbol;
+mod table;
 
-// The machine emits the code of the program that the definition reads, and fails where that is none.
-pub fn reader_right() -> u8
-    ensures { λ _. ⌜ «Reader-right» ⌝ }
-{
-    0
-}
+pub use action::Action;
+pub use cursor::Cursor;
+pub use error::Expected;
+pub use error::Misread;
+pub use symbol::Symbol;
+pub use table::step;
