@@ -61,7 +61,8 @@ fn multiplication(c: &mut Cursor) -> Option<Operator>
 
 // Behind a sum: one comparison, or none.
 pub fn compared(c: &mut Cursor) -> Result<Action, Expected>
-    ensures { λ r. ⌜ answered (text-of (now (c .entry))) r (tokens (now (c .exit))) ≡ step s-compared (tokens (now (c .entry))) ⌝ }
+    ensures does { λ r. ⌜ answered (text-of (now (c .entry))) r (tokens (now (c .exit))) ≡ step s-compared (tokens (now (c .entry))) ⌝ }
+    ensures text { λ _. ⌜ text-of (now (c .exit)) ≡ text-of (now (c .entry)) ⌝ }
 {
     match comparison(c) {
         Some(o) => Ok(Action::Push3([
@@ -75,7 +76,8 @@ pub fn compared(c: &mut Cursor) -> Result<Action, Expected>
 
 // Behind a product in a sum: another one, or none.
 pub fn more_sum(c: &mut Cursor) -> Result<Action, Expected>
-    ensures { λ r. ⌜ answered (text-of (now (c .entry))) r (tokens (now (c .exit))) ≡ step s-more-sum (tokens (now (c .entry))) ⌝ }
+    ensures does { λ r. ⌜ answered (text-of (now (c .entry))) r (tokens (now (c .exit))) ≡ step s-more-sum (tokens (now (c .entry))) ⌝ }
+    ensures text { λ _. ⌜ text-of (now (c .exit)) ≡ text-of (now (c .entry)) ⌝ }
 {
     match addition(c) {
         Some(o) => Ok(Action::Push4([
@@ -90,7 +92,8 @@ pub fn more_sum(c: &mut Cursor) -> Result<Action, Expected>
 
 // Behind a factor of a product: another one, or none.
 pub fn more_product(c: &mut Cursor) -> Result<Action, Expected>
-    ensures { λ r. ⌜ answered (text-of (now (c .entry))) r (tokens (now (c .exit))) ≡ step s-more-product (tokens (now (c .entry))) ⌝ }
+    ensures does { λ r. ⌜ answered (text-of (now (c .entry))) r (tokens (now (c .exit))) ≡ step s-more-product (tokens (now (c .entry))) ⌝ }
+    ensures text { λ _. ⌜ text-of (now (c .exit)) ≡ text-of (now (c .entry)) ⌝ }
 {
     match multiplication(c) {
         Some(o) => Ok(Action::Push4([
@@ -105,7 +108,8 @@ pub fn more_product(c: &mut Cursor) -> Result<Action, Expected>
 
 // Behind &: a name that is lent, to be changed or only seen.
 fn loan(c: &mut Cursor) -> Result<Action, Expected>
-    ensures { λ r. ⌜ answered (text-of (now (c .entry))) r (tokens (now (c .exit))) ≡ step-loan (tokens (now (c .entry))) ⌝ }
+    ensures does { λ r. ⌜ answered (text-of (now (c .entry))) r (tokens (now (c .exit))) ≡ step-loan (tokens (now (c .entry))) ⌝ }
+    ensures text { λ _. ⌜ text-of (now (c .exit)) ≡ text-of (now (c .entry)) ⌝ }
 {
     if c.accept_keyword(Keyword::Mut) {
         let x = c.lower(Expected::Name)?;
@@ -117,7 +121,8 @@ fn loan(c: &mut Cursor) -> Result<Action, Expected>
 
 // A constructor, with its arguments or with none.
 fn made(c: &mut Cursor, ctor: Name) -> Result<Action, Expected>
-    ensures { λ r. ⌜ answered (text-of (now (c .entry))) r (tokens (now (c .exit))) ≡ step-make (spelling (text-of (now (c .entry))) ctor) (tokens (now (c .entry))) ⌝ }
+    ensures does { λ r. ⌜ answered (text-of (now (c .entry))) r (tokens (now (c .exit))) ≡ step-make (spelling (text-of (now (c .entry))) ctor) (tokens (now (c .entry))) ⌝ }
+    ensures text { λ _. ⌜ text-of (now (c .exit)) ≡ text-of (now (c .entry)) ⌝ }
 {
     if c.accept_sign(Sign::LeftParen) {
         return Ok(Action::Push2([Symbol::Emit(Instr::Make(ctor)), Symbol::Args]));
@@ -127,7 +132,8 @@ fn made(c: &mut Cursor, ctor: Name) -> Result<Action, Expected>
 
 // A variable, or a function with its arguments.
 fn used(c: &mut Cursor, name: Name) -> Result<Action, Expected>
-    ensures { λ r. ⌜ answered (text-of (now (c .entry))) r (tokens (now (c .exit))) ≡ step-use (spelling (text-of (now (c .entry))) name) (tokens (now (c .entry))) ⌝ }
+    ensures does { λ r. ⌜ answered (text-of (now (c .entry))) r (tokens (now (c .exit))) ≡ step-use (spelling (text-of (now (c .entry))) name) (tokens (now (c .entry))) ⌝ }
+    ensures text { λ _. ⌜ text-of (now (c .exit)) ≡ text-of (now (c .entry)) ⌝ }
 {
     if !c.accept_sign(Sign::LeftParen) {
         return Ok(Action::Emit(Instr::Var(name)));
@@ -140,7 +146,8 @@ fn used(c: &mut Cursor, name: Name) -> Result<Action, Expected>
 
 // A number, or what begins with a name.
 fn atom(c: &mut Cursor) -> Result<Action, Expected>
-    ensures { λ r. ⌜ answered (text-of (now (c .entry))) r (tokens (now (c .exit))) ≡ step-atom (tokens (now (c .entry))) ⌝ }
+    ensures does { λ r. ⌜ answered (text-of (now (c .entry))) r (tokens (now (c .exit))) ≡ step-atom (tokens (now (c .entry))) ⌝ }
+    ensures text { λ _. ⌜ text-of (now (c .exit)) ≡ text-of (now (c .entry)) ⌝ }
 {
     if let Some(n) = c.accept_number()? {
         return Ok(Action::Emit(Instr::Num(n)));
@@ -154,7 +161,8 @@ fn atom(c: &mut Cursor) -> Result<Action, Expected>
 
 // What begins with *, & or box, or an atom.
 fn prefixed(c: &mut Cursor) -> Result<Action, Expected>
-    ensures { λ r. ⌜ answered (text-of (now (c .entry))) r (tokens (now (c .exit))) ≡ step-prefixed (tokens (now (c .entry))) ⌝ }
+    ensures does { λ r. ⌜ answered (text-of (now (c .entry))) r (tokens (now (c .exit))) ≡ step-prefixed (tokens (now (c .entry))) ⌝ }
+    ensures text { λ _. ⌜ text-of (now (c .exit)) ≡ text-of (now (c .entry)) ⌝ }
 {
     if c.accept_sign(Sign::Star) {
         let x = c.lower(Expected::Name)?;
@@ -171,7 +179,8 @@ fn prefixed(c: &mut Cursor) -> Result<Action, Expected>
 
 // The smallest expressions.
 pub fn primary(c: &mut Cursor) -> Result<Action, Expected>
-    ensures { λ r. ⌜ answered (text-of (now (c .entry))) r (tokens (now (c .exit))) ≡ step s-primary (tokens (now (c .entry))) ⌝ }
+    ensures does { λ r. ⌜ answered (text-of (now (c .entry))) r (tokens (now (c .exit))) ≡ step s-primary (tokens (now (c .entry))) ⌝ }
+    ensures text { λ _. ⌜ text-of (now (c .exit)) ≡ text-of (now (c .entry)) ⌝ }
 {
     if c.accept_sign(Sign::LeftParen) {
         return Ok(Action::Push2([Symbol::Expr, Symbol::RightParen]));
@@ -184,7 +193,8 @@ pub fn primary(c: &mut Cursor) -> Result<Action, Expected>
 
 // Behind an argument: another one, or the end.
 pub fn args_on(c: &mut Cursor) -> Result<Action, Expected>
-    ensures { λ r. ⌜ answered (text-of (now (c .entry))) r (tokens (now (c .exit))) ≡ step s-args-on (tokens (now (c .entry))) ⌝ }
+    ensures does { λ r. ⌜ answered (text-of (now (c .entry))) r (tokens (now (c .exit))) ≡ step s-args-on (tokens (now (c .entry))) ⌝ }
+    ensures text { λ _. ⌜ text-of (now (c .exit)) ≡ text-of (now (c .entry)) ⌝ }
 {
     if c.accept_sign(Sign::Comma) {
         return Ok(Action::Push1([Symbol::Args]));

@@ -15,7 +15,8 @@ use lexer::Sign;
 
 // A type: int, the name of data, or box, ref or mut and a type.
 pub fn ty(c: &mut Cursor) -> Result<Action, Expected>
-    ensures { λ r. ⌜ answered (text-of (now (c .entry))) r (tokens (now (c .exit))) ≡ step s-type (tokens (now (c .entry))) ⌝ }
+    ensures does { λ r. ⌜ answered (text-of (now (c .entry))) r (tokens (now (c .exit))) ≡ step s-type (tokens (now (c .entry))) ⌝ }
+    ensures text { λ _. ⌜ text-of (now (c .exit)) ≡ text-of (now (c .entry)) ⌝ }
 {
     if c.accept_keyword(Keyword::Int) {
         return Ok(Action::Emit(Instr::TyInt));
@@ -35,7 +36,8 @@ pub fn ty(c: &mut Cursor) -> Result<Action, Expected>
 
 // Behind a field's type: another one, or the end.
 pub fn fields_on(c: &mut Cursor) -> Result<Action, Expected>
-    ensures { λ r. ⌜ answered (text-of (now (c .entry))) r (tokens (now (c .exit))) ≡ step s-fields-on (tokens (now (c .entry))) ⌝ }
+    ensures does { λ r. ⌜ answered (text-of (now (c .entry))) r (tokens (now (c .exit))) ≡ step s-fields-on (tokens (now (c .entry))) ⌝ }
+    ensures text { λ _. ⌜ text-of (now (c .exit)) ≡ text-of (now (c .entry)) ⌝ }
 {
     if c.accept_sign(Sign::Comma) {
         return Ok(Action::Push1([Symbol::Fields]));
@@ -46,7 +48,8 @@ pub fn fields_on(c: &mut Cursor) -> Result<Action, Expected>
 
 // A constructor's fields in their bracket, or none.
 pub fn some_fields(c: &mut Cursor) -> Result<Action, Expected>
-    ensures { λ r. ⌜ answered (text-of (now (c .entry))) r (tokens (now (c .exit))) ≡ step s-some-fields (tokens (now (c .entry))) ⌝ }
+    ensures does { λ r. ⌜ answered (text-of (now (c .entry))) r (tokens (now (c .exit))) ≡ step s-some-fields (tokens (now (c .entry))) ⌝ }
+    ensures text { λ _. ⌜ text-of (now (c .exit)) ≡ text-of (now (c .entry)) ⌝ }
 {
     if c.accept_sign(Sign::LeftParen) {
         return Ok(Action::Push1([Symbol::Fields]));
@@ -56,7 +59,8 @@ pub fn some_fields(c: &mut Cursor) -> Result<Action, Expected>
 
 // A constructor, and those behind it.
 pub fn ctors(c: &mut Cursor) -> Result<Action, Expected>
-    ensures { λ r. ⌜ answered (text-of (now (c .entry))) r (tokens (now (c .exit))) ≡ step s-ctors (tokens (now (c .entry))) ⌝ }
+    ensures does { λ r. ⌜ answered (text-of (now (c .entry))) r (tokens (now (c .exit))) ≡ step s-ctors (tokens (now (c .entry))) ⌝ }
+    ensures text { λ _. ⌜ text-of (now (c .exit)) ≡ text-of (now (c .entry)) ⌝ }
 {
     let ctor = c.upper()?;
     Ok(Action::Push3([
@@ -68,7 +72,8 @@ pub fn ctors(c: &mut Cursor) -> Result<Action, Expected>
 
 // Behind a constructor: another one, or none.
 pub fn ctors_on(c: &mut Cursor) -> Result<Action, Expected>
-    ensures { λ r. ⌜ answered (text-of (now (c .entry))) r (tokens (now (c .exit))) ≡ step s-ctors-on (tokens (now (c .entry))) ⌝ }
+    ensures does { λ r. ⌜ answered (text-of (now (c .entry))) r (tokens (now (c .exit))) ≡ step s-ctors-on (tokens (now (c .entry))) ⌝ }
+    ensures text { λ _. ⌜ text-of (now (c .exit)) ≡ text-of (now (c .entry)) ⌝ }
 {
     if c.accept_sign(Sign::Bar) {
         return Ok(Action::Push1([Symbol::Ctors]));
@@ -78,7 +83,8 @@ pub fn ctors_on(c: &mut Cursor) -> Result<Action, Expected>
 
 // A parameter, and those behind it.
 pub fn params(c: &mut Cursor) -> Result<Action, Expected>
-    ensures { λ r. ⌜ answered (text-of (now (c .entry))) r (tokens (now (c .exit))) ≡ step s-params (tokens (now (c .entry))) ⌝ }
+    ensures does { λ r. ⌜ answered (text-of (now (c .entry))) r (tokens (now (c .exit))) ≡ step s-params (tokens (now (c .entry))) ⌝ }
+    ensures text { λ _. ⌜ text-of (now (c .exit)) ≡ text-of (now (c .entry)) ⌝ }
 {
     let x = c.lower(Expected::Name)?;
     c.expect_sign(Sign::Colon)?;
@@ -87,7 +93,8 @@ pub fn params(c: &mut Cursor) -> Result<Action, Expected>
 
 // Behind a parameter: another one, or the end.
 pub fn params_on(c: &mut Cursor) -> Result<Action, Expected>
-    ensures { λ r. ⌜ answered (text-of (now (c .entry))) r (tokens (now (c .exit))) ≡ step s-params-on (tokens (now (c .entry))) ⌝ }
+    ensures does { λ r. ⌜ answered (text-of (now (c .entry))) r (tokens (now (c .exit))) ≡ step s-params-on (tokens (now (c .entry))) ⌝ }
+    ensures text { λ _. ⌜ text-of (now (c .exit)) ≡ text-of (now (c .entry)) ⌝ }
 {
     if c.accept_sign(Sign::Comma) {
         return Ok(Action::Push1([Symbol::Params]));
@@ -98,7 +105,8 @@ pub fn params_on(c: &mut Cursor) -> Result<Action, Expected>
 
 // A function's parameters behind the bracket, or none.
 pub fn some_params(c: &mut Cursor) -> Result<Action, Expected>
-    ensures { λ r. ⌜ answered (text-of (now (c .entry))) r (tokens (now (c .exit))) ≡ step s-some-params (tokens (now (c .entry))) ⌝ }
+    ensures does { λ r. ⌜ answered (text-of (now (c .entry))) r (tokens (now (c .exit))) ≡ step s-some-params (tokens (now (c .entry))) ⌝ }
+    ensures text { λ _. ⌜ text-of (now (c .exit)) ≡ text-of (now (c .entry)) ⌝ }
 {
     if c.accept_sign(Sign::RightParen) {
         return Ok(Action::Push0);
@@ -108,7 +116,8 @@ pub fn some_params(c: &mut Cursor) -> Result<Action, Expected>
 
 // The end of data: the function that is called when it is dropped, or none.
 pub fn data_end(c: &mut Cursor, name: Name) -> Result<Action, Expected>
-    ensures { λ r. ⌜ answered (text-of (now (c .entry))) r (tokens (now (c .exit))) ≡ step (s-drop (spelling (text-of (now (c .entry))) name)) (tokens (now (c .entry))) ⌝ }
+    ensures does { λ r. ⌜ answered (text-of (now (c .entry))) r (tokens (now (c .exit))) ≡ step (s-drop (spelling (text-of (now (c .entry))) name)) (tokens (now (c .entry))) ⌝ }
+    ensures text { λ _. ⌜ text-of (now (c .exit)) ≡ text-of (now (c .entry)) ⌝ }
 {
     if c.accept_keyword(Keyword::Drop) {
         let last = c.lower(Expected::Name)?;
@@ -122,7 +131,8 @@ pub fn data_end(c: &mut Cursor, name: Name) -> Result<Action, Expected>
 
 // Behind data.
 fn data_item(c: &mut Cursor) -> Result<Action, Expected>
-    ensures { λ r. ⌜ answered (text-of (now (c .entry))) r (tokens (now (c .exit))) ≡ step-data (tokens (now (c .entry))) ⌝ }
+    ensures does { λ r. ⌜ answered (text-of (now (c .entry))) r (tokens (now (c .exit))) ≡ step-data (tokens (now (c .entry))) ⌝ }
+    ensures text { λ _. ⌜ text-of (now (c .exit)) ≡ text-of (now (c .entry)) ⌝ }
 {
     let name = c.lower(Expected::Name)?;
     c.expect_sign(Sign::Gets)?;
@@ -131,7 +141,8 @@ fn data_item(c: &mut Cursor) -> Result<Action, Expected>
 
 // Behind fn.
 fn fn_item(c: &mut Cursor) -> Result<Action, Expected>
-    ensures { λ r. ⌜ answered (text-of (now (c .entry))) r (tokens (now (c .exit))) ≡ step-fn (tokens (now (c .entry))) ⌝ }
+    ensures does { λ r. ⌜ answered (text-of (now (c .entry))) r (tokens (now (c .exit))) ≡ step-fn (tokens (now (c .entry))) ⌝ }
+    ensures text { λ _. ⌜ text-of (now (c .exit)) ≡ text-of (now (c .entry)) ⌝ }
 {
     let name = c.lower(Expected::Name)?;
     c.expect_sign(Sign::LeftParen)?;
@@ -148,7 +159,8 @@ fn fn_item(c: &mut Cursor) -> Result<Action, Expected>
 
 // Data or a function.
 fn item(c: &mut Cursor) -> Result<Action, Expected>
-    ensures { λ r. ⌜ answered (text-of (now (c .entry))) r (tokens (now (c .exit))) ≡ step-item (tokens (now (c .entry))) ⌝ }
+    ensures does { λ r. ⌜ answered (text-of (now (c .entry))) r (tokens (now (c .exit))) ≡ step-item (tokens (now (c .entry))) ⌝ }
+    ensures text { λ _. ⌜ text-of (now (c .exit)) ≡ text-of (now (c .entry)) ⌝ }
 {
     if c.accept_keyword(Keyword::Data) {
         return data_item(c);
@@ -161,7 +173,8 @@ fn item(c: &mut Cursor) -> Result<Action, Expected>
 
 // The items, up to the text's end.
 pub fn items(c: &mut Cursor) -> Result<Action, Expected>
-    ensures { λ r. ⌜ answered (text-of (now (c .entry))) r (tokens (now (c .exit))) ≡ step s-items (tokens (now (c .entry))) ⌝ }
+    ensures does { λ r. ⌜ answered (text-of (now (c .entry))) r (tokens (now (c .exit))) ≡ step s-items (tokens (now (c .entry))) ⌝ }
+    ensures text { λ _. ⌜ text-of (now (c .exit)) ≡ text-of (now (c .entry)) ⌝ }
 {
     if c.at_end() {
         return Ok(Action::Push0);

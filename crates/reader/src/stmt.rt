@@ -35,7 +35,8 @@ fn access(c: &mut Cursor) -> Option<Access>
 
 // The names of a constructor's parts, behind the bracket.
 pub fn names(c: &mut Cursor) -> Result<Action, Expected>
-    ensures { λ r. ⌜ answered (text-of (now (c .entry))) r (tokens (now (c .exit))) ≡ step s-names (tokens (now (c .entry))) ⌝ }
+    ensures does { λ r. ⌜ answered (text-of (now (c .entry))) r (tokens (now (c .exit))) ≡ step s-names (tokens (now (c .entry))) ⌝ }
+    ensures text { λ _. ⌜ text-of (now (c .exit)) ≡ text-of (now (c .entry)) ⌝ }
 {
     let x = c.lower(Expected::Name)?;
     if c.accept_sign(Sign::Comma) {
@@ -47,7 +48,8 @@ pub fn names(c: &mut Cursor) -> Result<Action, Expected>
 
 // The same with their bracket, or none.
 pub fn some_names(c: &mut Cursor) -> Result<Action, Expected>
-    ensures { λ r. ⌜ answered (text-of (now (c .entry))) r (tokens (now (c .exit))) ≡ step s-some-names (tokens (now (c .entry))) ⌝ }
+    ensures does { λ r. ⌜ answered (text-of (now (c .entry))) r (tokens (now (c .exit))) ≡ step s-some-names (tokens (now (c .entry))) ⌝ }
+    ensures text { λ _. ⌜ text-of (now (c .exit)) ≡ text-of (now (c .entry)) ⌝ }
 {
     if c.accept_sign(Sign::LeftParen) {
         return Ok(Action::Push1([Symbol::Names]));
@@ -57,7 +59,8 @@ pub fn some_names(c: &mut Cursor) -> Result<Action, Expected>
 
 // What a name is bound to, behind `let x =`.
 fn bound(c: &mut Cursor, x: Name) -> Result<Action, Expected>
-    ensures { λ r. ⌜ answered (text-of (now (c .entry))) r (tokens (now (c .exit))) ≡ step-bound (spelling (text-of (now (c .entry))) x) (tokens (now (c .entry))) ⌝ }
+    ensures does { λ r. ⌜ answered (text-of (now (c .entry))) r (tokens (now (c .exit))) ≡ step-bound (spelling (text-of (now (c .entry))) x) (tokens (now (c .entry))) ⌝ }
+    ensures text { λ _. ⌜ text-of (now (c .exit)) ≡ text-of (now (c .entry)) ⌝ }
 {
     if c.accept_keyword(Keyword::Open) {
         let y = c.lower(Expected::Name)?;
@@ -85,7 +88,8 @@ fn bound(c: &mut Cursor, x: Name) -> Result<Action, Expected>
 
 // Behind `let x`.
 fn named(c: &mut Cursor, x: Name) -> Result<Action, Expected>
-    ensures { λ r. ⌜ answered (text-of (now (c .entry))) r (tokens (now (c .exit))) ≡ step-named (spelling (text-of (now (c .entry))) x) (tokens (now (c .entry))) ⌝ }
+    ensures does { λ r. ⌜ answered (text-of (now (c .entry))) r (tokens (now (c .exit))) ≡ step-named (spelling (text-of (now (c .entry))) x) (tokens (now (c .entry))) ⌝ }
+    ensures text { λ _. ⌜ text-of (now (c .exit)) ≡ text-of (now (c .entry)) ⌝ }
 {
     c.expect_sign(Sign::Gets)?;
     bound(c, x)
@@ -93,7 +97,8 @@ fn named(c: &mut Cursor, x: Name) -> Result<Action, Expected>
 
 // Behind let.
 fn binding(c: &mut Cursor) -> Result<Action, Expected>
-    ensures { λ r. ⌜ answered (text-of (now (c .entry))) r (tokens (now (c .exit))) ≡ step-let (tokens (now (c .entry))) ⌝ }
+    ensures does { λ r. ⌜ answered (text-of (now (c .entry))) r (tokens (now (c .exit))) ≡ step-let (tokens (now (c .entry))) ⌝ }
+    ensures text { λ _. ⌜ text-of (now (c .exit)) ≡ text-of (now (c .entry)) ⌝ }
 {
     let x = c.lower(Expected::Name)?;
     named(c, x)
@@ -101,7 +106,8 @@ fn binding(c: &mut Cursor) -> Result<Action, Expected>
 
 // Behind *: a name, and what is written where it points.
 fn store(c: &mut Cursor) -> Result<Action, Expected>
-    ensures { λ r. ⌜ answered (text-of (now (c .entry))) r (tokens (now (c .exit))) ≡ step-store (tokens (now (c .entry))) ⌝ }
+    ensures does { λ r. ⌜ answered (text-of (now (c .entry))) r (tokens (now (c .exit))) ≡ step-store (tokens (now (c .entry))) ⌝ }
+    ensures text { λ _. ⌜ text-of (now (c .exit)) ≡ text-of (now (c .entry)) ⌝ }
 {
     let x = c.lower(Expected::Name)?;
     c.expect_sign(Sign::Gets)?;
@@ -115,7 +121,8 @@ fn store(c: &mut Cursor) -> Result<Action, Expected>
 
 // A name, and its new value.
 fn assignment(c: &mut Cursor) -> Result<Action, Expected>
-    ensures { λ r. ⌜ answered (text-of (now (c .entry))) r (tokens (now (c .exit))) ≡ step-assign (tokens (now (c .entry))) ⌝ }
+    ensures does { λ r. ⌜ answered (text-of (now (c .entry))) r (tokens (now (c .exit))) ≡ step-assign (tokens (now (c .entry))) ⌝ }
+    ensures text { λ _. ⌜ text-of (now (c .exit)) ≡ text-of (now (c .entry)) ⌝ }
 {
     let x = c.lower(Expected::Statement)?;
     c.expect_sign(Sign::Gets)?;
@@ -129,7 +136,8 @@ fn assignment(c: &mut Cursor) -> Result<Action, Expected>
 
 // Behind take, view or edit: the name that is matched, and its alternatives.
 fn matched(c: &mut Cursor, way: Access) -> Result<Action, Expected>
-    ensures { λ r. ⌜ answered (text-of (now (c .entry))) r (tokens (now (c .exit))) ≡ step-match (access-of way) s-alts (s-stmts ∷ []) (tokens (now (c .entry))) ⌝ }
+    ensures does { λ r. ⌜ answered (text-of (now (c .entry))) r (tokens (now (c .exit))) ≡ step-match (access-of way) s-alts (s-stmts ∷ []) (tokens (now (c .entry))) ⌝ }
+    ensures text { λ _. ⌜ text-of (now (c .exit)) ≡ text-of (now (c .entry)) ⌝ }
 {
     let x = c.lower(Expected::Name)?;
     c.expect_sign(Sign::LeftBrace)?;
@@ -142,7 +150,8 @@ fn matched(c: &mut Cursor, way: Access) -> Result<Action, Expected>
 
 // The same at the end of a body.
 fn given_match(c: &mut Cursor, way: Access) -> Result<Action, Expected>
-    ensures { λ r. ⌜ answered (text-of (now (c .entry))) r (tokens (now (c .exit))) ≡ step-match (access-of way) s-arms [] (tokens (now (c .entry))) ⌝ }
+    ensures does { λ r. ⌜ answered (text-of (now (c .entry))) r (tokens (now (c .exit))) ≡ step-match (access-of way) s-arms [] (tokens (now (c .entry))) ⌝ }
+    ensures text { λ _. ⌜ text-of (now (c .exit)) ≡ text-of (now (c .entry)) ⌝ }
 {
     let x = c.lower(Expected::Name)?;
     c.expect_sign(Sign::LeftBrace)?;
@@ -151,7 +160,8 @@ fn given_match(c: &mut Cursor, way: Access) -> Result<Action, Expected>
 
 // if, while, a match or an assignment.
 fn flow(c: &mut Cursor) -> Result<Action, Expected>
-    ensures { λ r. ⌜ answered (text-of (now (c .entry))) r (tokens (now (c .exit))) ≡ step-flow (tokens (now (c .entry))) ⌝ }
+    ensures does { λ r. ⌜ answered (text-of (now (c .entry))) r (tokens (now (c .exit))) ≡ step-flow (tokens (now (c .entry))) ⌝ }
+    ensures text { λ _. ⌜ text-of (now (c .exit)) ≡ text-of (now (c .entry)) ⌝ }
 {
     if c.accept_keyword(Keyword::If) {
         return Ok(Action::Push8([
@@ -183,7 +193,8 @@ fn flow(c: &mut Cursor) -> Result<Action, Expected>
 
 // A statement, and those behind it.
 fn stmt(c: &mut Cursor) -> Result<Action, Expected>
-    ensures { λ r. ⌜ answered (text-of (now (c .entry))) r (tokens (now (c .exit))) ≡ step-stmt (tokens (now (c .entry))) ⌝ }
+    ensures does { λ r. ⌜ answered (text-of (now (c .entry))) r (tokens (now (c .exit))) ≡ step-stmt (tokens (now (c .entry))) ⌝ }
+    ensures text { λ _. ⌜ text-of (now (c .exit)) ≡ text-of (now (c .entry)) ⌝ }
 {
     if c.accept_keyword(Keyword::Let) {
         return binding(c);
@@ -204,7 +215,8 @@ fn stmt(c: &mut Cursor) -> Result<Action, Expected>
 
 // Statements, up to a closing brace or give.
 pub fn stmts(c: &mut Cursor) -> Result<Action, Expected>
-    ensures { λ r. ⌜ answered (text-of (now (c .entry))) r (tokens (now (c .exit))) ≡ step s-stmts (tokens (now (c .entry))) ⌝ }
+    ensures does { λ r. ⌜ answered (text-of (now (c .entry))) r (tokens (now (c .exit))) ≡ step s-stmts (tokens (now (c .entry))) ⌝ }
+    ensures text { λ _. ⌜ text-of (now (c .exit)) ≡ text-of (now (c .entry)) ⌝ }
 {
     if c.at_sign(Sign::RightBrace) || c.at_keyword(Keyword::Give) {
         return Ok(Action::Push0);
@@ -214,7 +226,8 @@ pub fn stmts(c: &mut Cursor) -> Result<Action, Expected>
 
 // Statements in braces.
 pub fn block(c: &mut Cursor) -> Result<Action, Expected>
-    ensures { λ r. ⌜ answered (text-of (now (c .entry))) r (tokens (now (c .exit))) ≡ step s-block (tokens (now (c .entry))) ⌝ }
+    ensures does { λ r. ⌜ answered (text-of (now (c .entry))) r (tokens (now (c .exit))) ≡ step s-block (tokens (now (c .entry))) ⌝ }
+    ensures text { λ _. ⌜ text-of (now (c .exit)) ≡ text-of (now (c .entry)) ⌝ }
 {
     c.expect_sign(Sign::LeftBrace)?;
     Ok(Action::Push2([Symbol::Stmts, Symbol::RightBrace]))
@@ -222,7 +235,8 @@ pub fn block(c: &mut Cursor) -> Result<Action, Expected>
 
 // The alternatives of a match, up to the closing brace.
 pub fn alts(c: &mut Cursor) -> Result<Action, Expected>
-    ensures { λ r. ⌜ answered (text-of (now (c .entry))) r (tokens (now (c .exit))) ≡ step s-alts (tokens (now (c .entry))) ⌝ }
+    ensures does { λ r. ⌜ answered (text-of (now (c .entry))) r (tokens (now (c .exit))) ≡ step s-alts (tokens (now (c .entry))) ⌝ }
+    ensures text { λ _. ⌜ text-of (now (c .exit)) ≡ text-of (now (c .entry)) ⌝ }
 {
     if c.accept_sign(Sign::RightBrace) {
         return Ok(Action::Emit(Instr::EndMatch));
@@ -240,7 +254,8 @@ pub fn alts(c: &mut Cursor) -> Result<Action, Expected>
 
 // A function's body, or one of its parts.
 pub fn body(c: &mut Cursor) -> Result<Action, Expected>
-    ensures { λ r. ⌜ answered (text-of (now (c .entry))) r (tokens (now (c .exit))) ≡ step s-body (tokens (now (c .entry))) ⌝ }
+    ensures does { λ r. ⌜ answered (text-of (now (c .entry))) r (tokens (now (c .exit))) ≡ step s-body (tokens (now (c .entry))) ⌝ }
+    ensures text { λ _. ⌜ text-of (now (c .exit)) ≡ text-of (now (c .entry)) ⌝ }
 {
     c.expect_sign(Sign::LeftBrace)?;
     Ok(Action::Push4([
@@ -253,7 +268,8 @@ pub fn body(c: &mut Cursor) -> Result<Action, Expected>
 
 // What a body gives.
 pub fn tail(c: &mut Cursor) -> Result<Action, Expected>
-    ensures { λ r. ⌜ answered (text-of (now (c .entry))) r (tokens (now (c .exit))) ≡ step s-tail (tokens (now (c .entry))) ⌝ }
+    ensures does { λ r. ⌜ answered (text-of (now (c .entry))) r (tokens (now (c .exit))) ≡ step s-tail (tokens (now (c .entry))) ⌝ }
+    ensures text { λ _. ⌜ text-of (now (c .exit)) ≡ text-of (now (c .entry)) ⌝ }
 {
     if c.accept_keyword(Keyword::If) {
         return Ok(Action::Push7([
@@ -274,7 +290,8 @@ pub fn tail(c: &mut Cursor) -> Result<Action, Expected>
 
 // The alternatives of a match that a body gives.
 pub fn arms(c: &mut Cursor) -> Result<Action, Expected>
-    ensures { λ r. ⌜ answered (text-of (now (c .entry))) r (tokens (now (c .exit))) ≡ step s-arms (tokens (now (c .entry))) ⌝ }
+    ensures does { λ r. ⌜ answered (text-of (now (c .entry))) r (tokens (now (c .exit))) ≡ step s-arms (tokens (now (c .entry))) ⌝ }
+    ensures text { λ _. ⌜ text-of (now (c .exit)) ≡ text-of (now (c .entry)) ⌝ }
 {
     if c.accept_sign(Sign::RightBrace) {
         return Ok(Action::Emit(Instr::EndMatch));

@@ -16,7 +16,8 @@ use lexer::Sign;
 
 // A keyword that has to stand here.
 fn keyword(c: &mut Cursor, k: Keyword) -> Result<Action, Expected>
-    ensures { λ r. ⌜ answered (text-of (now (c .entry))) r (tokens (now (c .exit))) ≡ step-of (s-token (spelled k)) (tokens (now (c .entry))) ⌝ }
+    ensures does { λ r. ⌜ answered (text-of (now (c .entry))) r (tokens (now (c .exit))) ≡ step-of (s-token (spelled k)) (tokens (now (c .entry))) ⌝ }
+    ensures text { λ _. ⌜ text-of (now (c .exit)) ≡ text-of (now (c .entry)) ⌝ }
 {
     c.expect_keyword(k)?;
     Ok(Action::Push0)
@@ -24,7 +25,8 @@ fn keyword(c: &mut Cursor, k: Keyword) -> Result<Action, Expected>
 
 // A sign that has to stand here.
 fn sign(c: &mut Cursor, s: Sign) -> Result<Action, Expected>
-    ensures { λ r. ⌜ answered (text-of (now (c .entry))) r (tokens (now (c .exit))) ≡ step-of (s-token (drawn s)) (tokens (now (c .entry))) ⌝ }
+    ensures does { λ r. ⌜ answered (text-of (now (c .entry))) r (tokens (now (c .exit))) ≡ step-of (s-token (drawn s)) (tokens (now (c .entry))) ⌝ }
+    ensures text { λ _. ⌜ text-of (now (c .exit)) ≡ text-of (now (c .entry)) ⌝ }
 {
     c.expect_sign(s)?;
     Ok(Action::Push0)
@@ -32,7 +34,8 @@ fn sign(c: &mut Cursor, s: Sign) -> Result<Action, Expected>
 
 // One step: what stands in the place of the symbol that was on top.
 pub fn step(c: &mut Cursor, symbol: Symbol) -> Result<Action, Expected>
-    ensures { λ r. ⌜ answered (text-of (now (c .entry))) r (tokens (now (c .exit))) ≡ step-of (symbol-of (text-of (now (c .entry))) symbol) (tokens (now (c .entry))) ⌝ }
+    ensures does { λ r. ⌜ answered (text-of (now (c .entry))) r (tokens (now (c .exit))) ≡ step-of (symbol-of (text-of (now (c .entry))) symbol) (tokens (now (c .entry))) ⌝ }
+    ensures text { λ _. ⌜ text-of (now (c .exit)) ≡ text-of (now (c .entry)) ⌝ }
 {
     match symbol {
         Symbol::Emit(i) => Ok(Action::Emit(i)),

@@ -25,6 +25,8 @@ behind-name text now x ts left behind r e n h =
     ap (λ t. answered t r behind) (sym e) ∙ h ∙ ap₂ step-named (ap (λ t. spelling t x) e ∙ n .1) (n .2) ∙ sym (on-name ts (n .0))
 
 pub returns : need.returns
-returns c =
-    behind-name _ _ (c .in-Continue-x .x) (tokens (c .args .c .now)) _ (tokens (c .named .last .c)) (c .named .result)
-    (c .lower .ensures .text) (c .in-Continue-x .ensures tt .got) (c .named .ensures)
+returns c = record {
+  does = behind-name _ _ (c .in-Continue-x .x) (tokens (c .args .c .now)) _ (tokens (c .named .last .c)) (c .named .result)
+      (c .lower .ensures .text) (c .in-Continue-x .ensures tt .got) (c .named .ensures .does);
+  text = c .named .ensures .text ∙ c .lower .ensures .text;
+}
