@@ -13,3 +13,4 @@ pub mod TokenCount
 pub mod TokenCuts
 pub mod Peeks
 pub mod NextToken
+pub mod OnStack

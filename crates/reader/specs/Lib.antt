@@ -4,3 +4,4 @@ pub mod Reader
 pub mod Ahead
 pub mod Steps
 pub mod Tokens
+pub mod Stack
