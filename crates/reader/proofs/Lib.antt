@@ -14,3 +14,4 @@ pub mod TokenCuts
 pub mod Peeks
 pub mod NextToken
 pub mod OnStack
+pub mod Turns

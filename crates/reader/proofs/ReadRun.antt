@@ -11,7 +11,8 @@ use Rattle.language.specs.Text.{Found, reads, tokenize, idle}
 use Rattle.code.specs.Instr.{Instr}
 use Rattle.reader.specs.Symbol.{Symbol, s-items, Action, fail, push, emit, step}
 use Rattle.reader.specs.Reader.{Coded, Reads, onward, run, read-code}
-use Rattle.reader.proofs.Ranks.{rank, weight, room, makes, weights, rooms, makes-all, growth, grows, grows-all}
+use Rattle.reader.specs.Growth.{growth}
+use Rattle.reader.proofs.Ranks.{rank, weight, room, makes, weights, rooms, makes-all, grows, grows-all}
 use Rattle.reader.proofs.ReadSymbol.{spent}
 use Rattle.reader.proofs.Bounds.{Within, within}
 use Rattle.reader.proofs.ReadInvariant.{Good, Goes, good-step, good-end, target, good-start, coded-of}

@@ -5,3 +5,5 @@ pub mod Ahead
 pub mod Steps
 pub mod Tokens
 pub mod Stack
+pub mod Growth
+pub mod Machine

@@ -17,6 +17,7 @@ use lexer::Sign;
 use lexer::Token;
 
 // A text, and how far it has been read. What accepts a token goes past it if it is ahead; what expects one refuses any other.
+#[derive(Drop)]
 pub struct Cursor<'a> {
     lexer: Lexer<'a>,
 }
