@@ -7,3 +7,4 @@ pub mod Tokens
 pub mod Stack
 pub mod Growth
 pub mod Machine
+pub mod Answer

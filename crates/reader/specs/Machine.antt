@@ -7,7 +7,6 @@ use lib.ListN.{length}
 use Rattle.std.specs.declared.result.Result.{Result}
 use Rattle.std.specs.declared.result.Result.the-variants.{Ok, Err}
 use Rattle.language.specs.Text.{reads}
-use Rattle.language.specs.Says.{least-words}
 use Rattle.code.specs.declared.instr.Instr.{Instr}
 use Rattle.code.specs.Means.{means}
 use Rattle.code.specs.Words.{code-in, Filled}
@@ -64,6 +63,7 @@ pub record Refused (text : List ℕ) (e : Misread) : Type 0 where
   pub none-read : reads text ≡ none
   pub within : e .place ≤ length text
 
+-- which of the two, with enough words
 abbrev pub Reading : List ℕ → List ℕ → Result ℕ Misread → Type 0
 Reading text words (Ok count) = Read text words count
 Reading text words (Err e) = Refused text e

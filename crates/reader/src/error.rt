@@ -1,3 +1,5 @@
+ghost use mathlib.Core.Path.{_≡_};
+ghost use Rattle.reader.specs.declared.error.ReadError.the-variants.{NotText};
 use lexer::Keyword;
 use lexer::Sign;
 use lexer::Token;
@@ -22,4 +24,19 @@ pub struct Misread {
     pub place: usize,
     pub found: Option<Token>,
     pub expected: Expected,
+}
+
+// Why a text was not read: fewer words were lent than any text of its length may need, or it is no program.
+#[derive(Clone, Copy)]
+pub enum ReadError {
+    Little,
+    NotText(Misread),
+}
+
+pub impl From<Misread> for ReadError as MisreadReadError {
+    ghost converts = { λ e r. r ≡ NotText e };
+
+    fn from(e: Misread) -> Self {
+        ReadError::NotText(e)
+    }
 }

@@ -1,3 +1,5 @@
+// From the bytes of a text to linear code in lent words, by a machine with a stack of symbols: one step a symbol, no recursion.
+
 mod action;
 mod ahead;
 mod cursor;
@@ -5,6 +7,7 @@ mod error;
 mod expr;
 mod item;
 mod machine;
+mod reading;
 mod slots;
 mod stack;
 mod stmt;
@@ -13,4 +16,7 @@ mod table;
 
 pub use error::Expected;
 pub use error::Misread;
-pub use machine::run;
+pub use error::MisreadReadError;
+pub use error::ReadError;
+pub use reading::Code;
+pub use reading::read;

@@ -1,0 +1,41 @@
+ghost use Prim.Native.Nat.{_+_, _*_, _<_, _≤_};
+ghost use mathlib.Core.Path.{_≡_};
+ghost use lib.Dec.{leb};
+ghost use lib.ListN.{length};
+ghost use Rattle.reader.specs.Answer.{Answer};
+use super::error::Misread;
+use super::error::MisreadReadError;
+use super::error::ReadError;
+use super::machine::run;
+
+// The words that are lent, for a text of n bytes: the code lies in the slots below CODE_SLOTS * n + 1, the stack in the slots
+// behind them, at most STACK_SLOTS * n + 9; a slot is three words.
+const FIXED_WORDS: usize = 65_536;
+
+const WORDS_PER_BYTE: usize = 64;
+
+const CODE_SLOTS: usize = 3;
+
+// A text that was read: its code lies in so many slots of the words, from the first on.
+#[derive(Clone, Copy)]
+pub struct Code {
+    pub count: usize,
+}
+
+// Whether so many words are enough for a text of so many bytes.
+fn is_enough(words: usize, bytes: usize) -> bool
+    ensures { λ r. ⌜ r ≡ leb (65536 + 64 * bytes) words ⌝ }
+{
+    words >= FIXED_WORDS && (words - FIXED_WORDS) / WORDS_PER_BYTE >= bytes
+}
+
+// Reads a text into code, in the words that are lent.
+pub fn read(text: &[u8], work: &mut [u64]) -> Result<Code, ReadError>
+    ensures { λ r. ⌜ Answer (now (text .entry)) (now (work .exit)) r ⌝ }
+{
+    if !is_enough(work.len(), text.len()) {
+        return Err(ReadError::Little);
+    }
+    let count = run(text, work, CODE_SLOTS * text.len() + 1)?;
+    Ok(Code { count })
+}
