@@ -9,9 +9,5 @@ pub mod ReadStep
 pub mod Bounds
 pub mod ReadInvariant
 pub mod ReadRun
-pub mod TokenCount
-pub mod TokenCuts
-pub mod Peeks
-pub mod NextToken
 pub mod OnStack
 pub mod Turns

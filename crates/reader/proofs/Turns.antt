@@ -9,6 +9,7 @@ use Rattle.std.proofs.shelf.Lists.{length-map}
 use Rattle.std.specs.declared.result.Result.the-variants.{Ok, Err}
 use Rattle.language.specs.Base.{Lexeme}
 use Rattle.language.specs.Text.{reads, tokenize, idle}
+use Rattle.lexer.proofs.Few.{few-words}
 use Rattle.code.specs.Instr.{Instr}
 use Rattle.code.specs.Means.{means}
 use Rattle.code.specs.Words.{instrs-in, code-in, Filled}
@@ -25,7 +26,6 @@ use Rattle.reader.specs.Stack.{symbol-at, stack-in}
 use Rattle.reader.specs.Machine.{pushed, given, Performed, Read}
 use Rattle.reader.proofs.OnStack.{tall}
 use Rattle.reader.proofs.ReadRun.{After, Kept, kept, kept-start, kept-fails, kept-ends, measure, height, room-height}
-use Rattle.reader.proofs.TokenCount.{tokens-few}
 
 symbols-++ : (text : List ℕ) (a b : List Symbol) → symbols-of text (a ++ b) ≡ symbols-of text a ++ symbols-of text b
 symbols-++ text [] b = refl
@@ -83,7 +83,7 @@ module _ (text words : List ℕ) (base : ℕ) (at : Progress) (ts : List Lexeme)
   pub bounded : (at .height ≤ 10 * length text + 1) × (at .made ≤ 3 * length text)
   bounded =
       let r = g .state .room in
-      let n = tokens-few text in
+      let n = few-words text in
       let h = height (symbols-of text (stack-in words base (at .height))) in
       let l = symbols-long text (stack-in words base (at .height)) in
       let t = tall words base (at .height) in
@@ -97,7 +97,7 @@ module _ (text words : List ℕ) (base : ℕ) (at : Progress) (ts : List Lexeme)
       let o = code-in text words (at .made) in
       let s : Kept (tokenize idle text) [] ts o = subst (λ k. Kept (tokenize idle text) k ts o) stack (g .state) in
       let b = room-height (tokenize idle text) [] ts o (s .room) in
-      let n = tokens-few text in
+      let n = few-words text in
       let m = made-long in
       record { coded = kept-ends text ts o s; filled = g .filled; few = omega arith; grown = omega arith }
 

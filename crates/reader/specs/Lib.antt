@@ -1,7 +1,6 @@
 -- The reader as a machine: its symbols, its steps, its run; and what they are in words.
 pub mod Symbol
 pub mod Reader
-pub mod Ahead
 pub mod Steps
 pub mod Tokens
 pub mod Stack

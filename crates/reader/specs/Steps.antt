@@ -12,6 +12,7 @@ use Rattle.lexer.specs.Spelling.{spelling}
 use Rattle.code.specs.Means.{means, op-number, access-of}
 use Rattle.code.specs.declared.instr.Operator.{Operator}
 use Rattle.code.specs.declared.instr.Access.{Access}
+use Rattle.std.specs.Options.{Cases}
 use Rattle.std.specs.declared.option.Option.{Option as Maybe}
 use Rattle.std.specs.declared.option.Option.the-variants.{None, Some}
 use Rattle.std.specs.declared.result.Result.{Result}
@@ -126,11 +127,8 @@ none-left (t ∷ ts) = false
 
 -- what the token ahead says of its lexeme: a name of that kind, or none
 abbrev pub Told : List ℕ → (Lexeme → Bool) → Maybe Name → Lexeme → Type 0
-Told text ok (Some name) w = (ok w ≡ true) × (spelling text name ≡ w)
-Told text ok None w = ok w ≡ false
+Told text ok o w = Cases o (ok w ≡ false) (λ name. (ok w ≡ true) × (spelling text name ≡ w))
 
 -- a number with its value, a number with none, or none
 abbrev pub Valued : Maybe (Maybe ℕ) → Lexeme → Type 0
-Valued (Some (Some n)) w = (is-number w ≡ true) × (value-of w ≡ some n)
-Valued (Some None) w = (is-number w ≡ true) × (value-of w ≡ none)
-Valued None w = is-number w ≡ false
+Valued o w = Cases o (is-number w ≡ false) (λ v. (is-number w ≡ true) × Cases v (value-of w ≡ none) (λ n. value-of w ≡ some n))

@@ -1,5 +1,5 @@
 ghost use mathlib.Core.Path.{_≡_};
-ghost use Rattle.reader.specs.Ahead.{sign-number, keyword-number, sign-ahead, keyword-ahead, lower-ahead, upper-ahead, number-ahead};
+ghost use Rattle.lexer.specs.Asks.{sign-number, keyword-number, sign-ahead, keyword-ahead, lower-ahead, upper-ahead, number-ahead};
 use lexer::Keyword;
 use lexer::Name;
 use lexer::Sign;

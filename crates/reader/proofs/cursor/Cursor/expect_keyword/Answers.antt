@@ -1,6 +1,6 @@
 use mathlib.Core.Path.{sym, _∙_}
 use Rattle.lexer.specs.Tokens.{spelled}
-use Rattle.reader.proofs.Peeks.{same-sym}
+use Rattle.lexer.proofs.Same.{same-sym}
 use Rattle.reader.proofs.cursor.Cursor.expect_keyword.Needs as need
 
 pub returns-then-accept-keyword : need.returns-then-accept-keyword

@@ -1,6 +1,6 @@
 use mathlib.Core.Path.{sym, _∙_}
 use Rattle.lexer.specs.Tokens.{drawn}
-use Rattle.reader.proofs.Peeks.{same-sym}
+use Rattle.lexer.proofs.Same.{same-sym}
 use Rattle.reader.proofs.cursor.Cursor.expect_sign.Needs as need
 
 pub returns-then-accept-sign : need.returns-then-accept-sign

@@ -1,5 +1,5 @@
-use Rattle.reader.proofs.NextToken.{upper-told}
+use Rattle.lexer.proofs.Asks.{asks-upper}
 use Rattle.reader.proofs.cursor.Cursor.upper_ahead.Needs as need
 
 pub returns : need.returns
-returns c = rw (c .upper .ensures) (upper-told _ _ _ (c .token .ensures))
+returns c = rw (c .upper .ensures) (asks-upper _ _ _ (c .token .ensures))
