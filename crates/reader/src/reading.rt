@@ -1,15 +1,15 @@
-ghost use Prim.Native.Nat.{_+_, _*_, _<_, _≤_};
+ghost use Prim.Native.Nat.{_+_, _*_, _<_, _^_};
 ghost use mathlib.Core.Path.{_≡_};
 ghost use lib.Dec.{leb};
-ghost use lib.ListN.{length};
+ghost use Rattle.std.specs.Numbers.{Checked};
 ghost use Rattle.reader.specs.Answer.{Answer};
 use super::error::Misread;
 use super::error::MisreadReadError;
 use super::error::ReadError;
 use super::machine::run;
 
-// The words that are lent, for a text of n bytes: the code lies in the slots below CODE_SLOTS * n + 1, the stack in the slots
-// behind them, at most STACK_SLOTS * n + 9; a slot is three words.
+// The words that are lent, for a text of n bytes: FIXED_WORDS and WORDS_PER_BYTE * n. In slots of three words, the code has the
+// first CODE_SLOTS * n + 1, and the stack those behind them, of which it needs 10 * n + 9 at most.
 const FIXED_WORDS: usize = 65_536;
 
 const WORDS_PER_BYTE: usize = 64;
@@ -22,11 +22,24 @@ pub struct Code {
     pub count: usize,
 }
 
+// How many words are enough for any text of so many bytes, if there is such a number.
+pub fn least_words(bytes: usize) -> Option<usize>
+    ensures { λ r. ⌜ Checked r (65536 + 64 * bytes < 2 ^ 64) (65536 + 64 * bytes) ⌝ }
+{
+    if bytes > (usize::MAX - FIXED_WORDS) / WORDS_PER_BYTE {
+        return None;
+    }
+    Some(FIXED_WORDS + WORDS_PER_BYTE * bytes)
+}
+
 // Whether so many words are enough for a text of so many bytes.
 fn is_enough(words: usize, bytes: usize) -> bool
     ensures { λ r. ⌜ r ≡ leb (65536 + 64 * bytes) words ⌝ }
 {
-    words >= FIXED_WORDS && (words - FIXED_WORDS) / WORDS_PER_BYTE >= bytes
+    match least_words(bytes) {
+        Some(least) => least <= words,
+        None => false,
+    }
 }
 
 // Reads a text into code, in the words that are lent.
