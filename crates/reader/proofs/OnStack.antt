@@ -1,7 +1,7 @@
 -- The stack in words: a slot holds the symbol that was put into it, and what is written beside it leaves it as it was.
 use mathlib.Core.Path.{_≡_, refl, sym, ap, ap₂, _∙_}
 use mathlib.Core.Bool.{true}
-use mathlib.Core.List.{List, [], _∷_, _++_}
+use mathlib.Core.List.{List, _∷_, _++_}
 use Prim.Native.Nat.{ℕ, zero, suc, _+_, _*_, _-_, _<_, _≤_}
 use native.Mathlib.Omega.{arith}
 use native.Mathlib.Numerals.{add-one}
@@ -10,8 +10,8 @@ use lib.ListN.{length, getD, drop}
 use Rattle.std.proofs.shelf.Lists.{drop-more}
 use Rattle.lexer.proofs.Cut.{choose-true}
 use Rattle.code.specs.declared.instr.Instr.{Instr}
-use Rattle.code.specs.Slots.{slot, slot-of, held}
-use Rattle.code.specs.Words.{slot-in, with-slot}
+use Rattle.code.specs.Slots.{slot, slot-of}
+use Rattle.code.specs.Words.{with-slot}
 use Rattle.code.proofs.RoundTrip.{round-trip}
 use Rattle.code.proofs.InWords.{slot-put, word-kept}
 use Rattle.reader.specs.declared.symbol.Symbol.{Symbol}

@@ -1,21 +1,20 @@
--- The reader's run: its measure falls, there is room, and its output is the code of the program;
--- lemmas for a loop over words.
-use mathlib.Core.Path.{_≡_, refl, sym, subst}
+-- The reader's loop: its measure falls, there is room, and its output is the code of the program.
+use mathlib.Core.Path.{_≡_, subst}
 use mathlib.Core.List.{List, [], _∷_, _++_}
-use mathlib.Core.Option.{Option, some, none}
-use Prim.Native.Nat.{ℕ, zero, suc, _+_, _*_, _≤_, _<_}
+use mathlib.Core.Option.{none}
+use Prim.Native.Nat.{ℕ, _+_, _*_, _≤_, _<_}
 use native.Mathlib.Omega.{arith}
 use lib.ListN.{length, length-append}
 use Rattle.language.specs.Base.{Lexeme}
-use Rattle.language.specs.Text.{Found, reads, tokenize, idle}
+use Rattle.language.specs.Text.{reads, tokenize, idle}
 use Rattle.code.specs.Instr.{Instr}
 use Rattle.reader.specs.Symbol.{Symbol, s-items, Action, fail, push, emit, step}
-use Rattle.reader.specs.Reader.{Coded, Reads, onward, run, read-code}
+use Rattle.reader.specs.Reader.{Coded}
 use Rattle.reader.specs.Growth.{growth}
 use Rattle.reader.proofs.Ranks.{rank, weight, room, makes, weights, rooms, makes-all, grows, grows-all}
 use Rattle.reader.proofs.ReadSymbol.{spent}
 use Rattle.reader.proofs.Bounds.{Within, within}
-use Rattle.reader.proofs.ReadInvariant.{Good, Goes, good-step, good-end, target, good-start, coded-of}
+use Rattle.reader.proofs.ReadInvariant.{Good, Goes, good-step, target, good-start}
 use Rattle.reader.proofs.ReadInvariant.{read-done, read-failed}
 
 -- the measure falls, and there is room: symbols left and instructions made are together at most ten
@@ -61,8 +60,12 @@ falls s k ts o = at (step s ts) (within s (rank s + 16 * length ts) ts (omega ar
         Falls k o (measure (s ∷ k) ts) (10 * length ts + rooms (s ∷ k) + length o)
         (3 * length ts + makes-all (s ∷ k) + length o) (length ts + grows-all (s ∷ k) + growth o) d
     at fail w = tt
-    at (push ss r) w = let a = weights-++ ss k in let b = rooms-++ ss k in let y = makes-++ ss k in let z =
-        grows-++ ss k in omega arith
+    at (push ss r) w =
+        let a = weights-++ ss k in
+        let b = rooms-++ ss k in
+        let y = makes-++ ss k in
+        let z = grows-++ ss k in
+        omega arith
     at (emit i r) w = let a = length-append o (i ∷ []) in let b = growth-++ o (i ∷ []) in omega arith
 
 pub one-at-least : (s : Symbol) → 1 ≤ room s
@@ -71,35 +74,6 @@ one-at-least s = grind arith
 pub height : (k : List Symbol) → length k ≤ rooms k
 height [] = omega arith
 height (s ∷ k) = let h = height k in let p = one-at-least s in omega arith
-
-pub runs : (n : ℕ) (t : Option (Found (List Instr))) (k : List Symbol) (ts : List Lexeme) (o : List Instr) →
-    Good t k ts o → measure k ts < n → run n k ts o ≡ t
-runs zero t k ts o g h = absurd (omega arith)
-runs (suc n) t [] ts o g h = sym (good-end t ts o g)
-runs (suc n) t (s ∷ k) ts o g h = at (step s ts) (good-step t s k ts o g) (falls s k ts o) (runs n t)
-  where
-    at : (d : Action) → Goes t k o d → Falls k o (measure (s ∷ k) ts)
-        (10 * length ts + rooms (s ∷ k) + length o) (3 * length ts + makes-all (s ∷ k) + length o)
-        (length ts + grows-all (s ∷ k) + growth o) d → ((k1 : List Symbol) (ts1 : List Lexeme)
-        (o1 : List Instr) → Good t k1 ts1 o1 → measure k1 ts1 < n → run n k1 ts1 o1 ≡ t) →
-        onward (λ k1 ts1 o1. run n k1 ts1 o1) k o d ≡ t
-    at fail q w ih = sym q
-    at (push ss r) q w ih = ih (ss ++ k) r o q (let a = w .0 in omega arith)
-    at (emit i r) q w ih = ih k r (o ++ (i ∷ [])) q (let a = w .0 in omega arith)
-
-pub run-right : (ts : List Lexeme) → read-code ts ≡ target ts
-run-right ts = runs (20 * length ts + 2) (target ts) (s-items ∷ []) ts [] (good-start ts) (omega arith)
-
-pub reader-right : (bytes : List ℕ) → Reads bytes (read-code (tokenize idle bytes))
-reader-right bytes = rw (run-right (tokenize idle bytes)) (at (target (tokenize idle bytes)) refl)
-  where
-    at : (m : Option (Found (List Instr))) → target (tokenize idle bytes) ≡ m → Reads bytes m
-    at none e = read-failed bytes e
-    at (some g) e = coded-of bytes (g .what) (g .behind) e
-
--- the room in words: n tokens, three words to a symbol and to an instruction, two to a token
-pub all-fits : (n stack out : ℕ) → stack ≤ 10 * n + 1 → out ≤ 3 * n → 3 * stack + 3 * out + 2 * n ≤ 41 * n + 3
-all-fits n stack out h k = omega arith
 
 -- what a state of the machine that came from the start is bounded by
 pub record Room (tokens : List Lexeme) (k : List Symbol) (ts : List Lexeme) (o : List Instr) : Type 0 where

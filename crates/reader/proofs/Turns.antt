@@ -2,11 +2,10 @@
 use mathlib.Core.Path.{_≡_, refl, sym, ap, _∙_, subst}
 use mathlib.Core.List.{List, [], _∷_, _++_, map, append-nil}
 use mathlib.Core.Option.{none}
-use Prim.Native.Nat.{ℕ, zero, suc, _+_, _*_, _-_, _≤_, _<_}
+use Prim.Native.Nat.{ℕ, suc, _+_, _*_, _-_, _≤_, _<_}
 use native.Mathlib.Omega.{arith}
 use lib.ListN.{length}
 use Rattle.std.proofs.shelf.Lists.{length-map}
-use Rattle.std.specs.declared.result.Result.the-variants.{Ok, Err}
 use Rattle.language.specs.Base.{Lexeme}
 use Rattle.language.specs.Text.{reads, tokenize, idle}
 use Rattle.lexer.proofs.Few.{few-words}
@@ -18,7 +17,6 @@ use Rattle.reader.specs.declared.symbol.Symbol.the-variants.{Items}
 use Rattle.reader.specs.declared.action.Action.{Action}
 use Rattle.reader.specs.declared.action.Action.the-variants.{Emit, Push0, Push1, Push2, Push3, Push4}
 use Rattle.reader.specs.declared.action.Action.the-variants.{Push6, Push7, Push8}
-use Rattle.reader.specs.declared.error.Expected.{Expected}
 use Rattle.reader.specs.declared.machine.Progress.{Progress}
 use Rattle.reader.specs.Symbol as spec
 use Rattle.reader.specs.Steps.{symbol-of, symbols-of, action-of}

@@ -61,7 +61,7 @@ fn show_token<W: fmt::Write>(f: &mut fmt::Formatter<W>, token: Option<Token>) ->
         Some(Token::Lower(_)) => f.write_str("a name"),
         Some(Token::Upper(_)) => f.write_str("a constructor"),
         Some(Token::Number(n)) => write!(f, "{n}"),
-        Some(Token::BadNumber) => f.write_str("no number below 2^64"),
+        Some(Token::BadNumber) => f.write_str("a number that is too large or has letters in it"),
         Some(Token::Other) => f.write_str("a byte that stands for nothing"),
         None => f.write_str("the end of the text"),
     }

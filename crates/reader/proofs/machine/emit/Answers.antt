@@ -2,7 +2,7 @@ use mathlib.Core.Path.{ap, _∙_}
 use Prim.Native.Nat.{_+_}
 use native.Mathlib.Omega.{arith}
 use Rattle.code.specs.Slots.{slot-of}
-use Rattle.code.specs.Words.{with-slot, code-in, Filled}
+use Rattle.code.specs.Words.{with-slot, code-in}
 use Rattle.code.proofs.InWords.{word-behind}
 use Rattle.code.proofs.Filled.{code-put, filled-put}
 use Rattle.reader.specs.Stack.{stack-in}

@@ -1,5 +1,4 @@
-use mathlib.Core.Path.{refl, ap, sym, _∙_}
-use mathlib.Core.List.{_++_}
+use mathlib.Core.Path.{refl, _∙_}
 use native.Mathlib.Omega.{arith}
 use lib.Seq.{drop-length}
 use Rattle.reader.specs.Stack.{stack-in}
