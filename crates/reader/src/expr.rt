@@ -1,8 +1,8 @@
 ghost use mathlib.Core.Path.{_≡_};
 ghost use Rattle.reader.specs.Symbol.{step, s-compared, s-more-sum, s-more-product, s-primary, s-args-on};
 ghost use Rattle.reader.specs.Symbol.{step-loan, step-atom, step-make, step-use, step-prefixed};
-ghost use Rattle.reader.specs.Steps.{answered, Joined};
-ghost use Rattle.reader.specs.Tokens.{text-of, tokens};
+ghost use Rattle.reader.specs.Steps.{Joined};
+ghost use Rattle.reader.specs.Tokens.{text-of, tokens, Does};
 ghost use Rattle.lexer.specs.Spelling.{spelling};
 use super::action::Action;
 use super::cursor::Cursor;
@@ -61,7 +61,7 @@ fn multiplication(c: &mut Cursor) -> Option<Operator>
 
 // Behind a sum: one comparison, or none.
 pub fn compared(c: &mut Cursor) -> Result<Action, Expected>
-    ensures does { λ r. ⌜ answered (text-of (now (c .entry))) r (tokens (now (c .exit))) ≡ step s-compared (tokens (now (c .entry))) ⌝ }
+    ensures does { λ r. ⌜ Does (now (c .entry)) (now (c .exit)) r (step s-compared) ⌝ }
     ensures text { λ _. ⌜ text-of (now (c .exit)) ≡ text-of (now (c .entry)) ⌝ }
 {
     match comparison(c) {
@@ -76,7 +76,7 @@ pub fn compared(c: &mut Cursor) -> Result<Action, Expected>
 
 // Behind a product in a sum: another one, or none.
 pub fn more_sum(c: &mut Cursor) -> Result<Action, Expected>
-    ensures does { λ r. ⌜ answered (text-of (now (c .entry))) r (tokens (now (c .exit))) ≡ step s-more-sum (tokens (now (c .entry))) ⌝ }
+    ensures does { λ r. ⌜ Does (now (c .entry)) (now (c .exit)) r (step s-more-sum) ⌝ }
     ensures text { λ _. ⌜ text-of (now (c .exit)) ≡ text-of (now (c .entry)) ⌝ }
 {
     match addition(c) {
@@ -92,7 +92,7 @@ pub fn more_sum(c: &mut Cursor) -> Result<Action, Expected>
 
 // Behind a factor of a product: another one, or none.
 pub fn more_product(c: &mut Cursor) -> Result<Action, Expected>
-    ensures does { λ r. ⌜ answered (text-of (now (c .entry))) r (tokens (now (c .exit))) ≡ step s-more-product (tokens (now (c .entry))) ⌝ }
+    ensures does { λ r. ⌜ Does (now (c .entry)) (now (c .exit)) r (step s-more-product) ⌝ }
     ensures text { λ _. ⌜ text-of (now (c .exit)) ≡ text-of (now (c .entry)) ⌝ }
 {
     match multiplication(c) {
@@ -108,7 +108,7 @@ pub fn more_product(c: &mut Cursor) -> Result<Action, Expected>
 
 // Behind &: a name that is lent, to be changed or only seen.
 fn loan(c: &mut Cursor) -> Result<Action, Expected>
-    ensures does { λ r. ⌜ answered (text-of (now (c .entry))) r (tokens (now (c .exit))) ≡ step-loan (tokens (now (c .entry))) ⌝ }
+    ensures does { λ r. ⌜ Does (now (c .entry)) (now (c .exit)) r step-loan ⌝ }
     ensures text { λ _. ⌜ text-of (now (c .exit)) ≡ text-of (now (c .entry)) ⌝ }
 {
     if c.accept_keyword(Keyword::Mut) {
@@ -121,7 +121,7 @@ fn loan(c: &mut Cursor) -> Result<Action, Expected>
 
 // A constructor, with its arguments or with none.
 fn made(c: &mut Cursor, ctor: Name) -> Result<Action, Expected>
-    ensures does { λ r. ⌜ answered (text-of (now (c .entry))) r (tokens (now (c .exit))) ≡ step-make (spelling (text-of (now (c .entry))) ctor) (tokens (now (c .entry))) ⌝ }
+    ensures does { λ r. ⌜ Does (now (c .entry)) (now (c .exit)) r (step-make (spelling (text-of (now (c .entry))) ctor)) ⌝ }
     ensures text { λ _. ⌜ text-of (now (c .exit)) ≡ text-of (now (c .entry)) ⌝ }
 {
     if c.accept_sign(Sign::LeftParen) {
@@ -132,7 +132,7 @@ fn made(c: &mut Cursor, ctor: Name) -> Result<Action, Expected>
 
 // A variable, or a function with its arguments.
 fn used(c: &mut Cursor, name: Name) -> Result<Action, Expected>
-    ensures does { λ r. ⌜ answered (text-of (now (c .entry))) r (tokens (now (c .exit))) ≡ step-use (spelling (text-of (now (c .entry))) name) (tokens (now (c .entry))) ⌝ }
+    ensures does { λ r. ⌜ Does (now (c .entry)) (now (c .exit)) r (step-use (spelling (text-of (now (c .entry))) name)) ⌝ }
     ensures text { λ _. ⌜ text-of (now (c .exit)) ≡ text-of (now (c .entry)) ⌝ }
 {
     if !c.accept_sign(Sign::LeftParen) {
@@ -146,7 +146,7 @@ fn used(c: &mut Cursor, name: Name) -> Result<Action, Expected>
 
 // A number, or what begins with a name.
 fn atom(c: &mut Cursor) -> Result<Action, Expected>
-    ensures does { λ r. ⌜ answered (text-of (now (c .entry))) r (tokens (now (c .exit))) ≡ step-atom (tokens (now (c .entry))) ⌝ }
+    ensures does { λ r. ⌜ Does (now (c .entry)) (now (c .exit)) r step-atom ⌝ }
     ensures text { λ _. ⌜ text-of (now (c .exit)) ≡ text-of (now (c .entry)) ⌝ }
 {
     if let Some(n) = c.accept_number()? {
@@ -161,7 +161,7 @@ fn atom(c: &mut Cursor) -> Result<Action, Expected>
 
 // What begins with *, & or box, or an atom.
 fn prefixed(c: &mut Cursor) -> Result<Action, Expected>
-    ensures does { λ r. ⌜ answered (text-of (now (c .entry))) r (tokens (now (c .exit))) ≡ step-prefixed (tokens (now (c .entry))) ⌝ }
+    ensures does { λ r. ⌜ Does (now (c .entry)) (now (c .exit)) r step-prefixed ⌝ }
     ensures text { λ _. ⌜ text-of (now (c .exit)) ≡ text-of (now (c .entry)) ⌝ }
 {
     if c.accept_sign(Sign::Star) {
@@ -179,7 +179,7 @@ fn prefixed(c: &mut Cursor) -> Result<Action, Expected>
 
 // The smallest expressions.
 pub fn primary(c: &mut Cursor) -> Result<Action, Expected>
-    ensures does { λ r. ⌜ answered (text-of (now (c .entry))) r (tokens (now (c .exit))) ≡ step s-primary (tokens (now (c .entry))) ⌝ }
+    ensures does { λ r. ⌜ Does (now (c .entry)) (now (c .exit)) r (step s-primary) ⌝ }
     ensures text { λ _. ⌜ text-of (now (c .exit)) ≡ text-of (now (c .entry)) ⌝ }
 {
     if c.accept_sign(Sign::LeftParen) {
@@ -193,7 +193,7 @@ pub fn primary(c: &mut Cursor) -> Result<Action, Expected>
 
 // Behind an argument: another one, or the end.
 pub fn args_on(c: &mut Cursor) -> Result<Action, Expected>
-    ensures does { λ r. ⌜ answered (text-of (now (c .entry))) r (tokens (now (c .exit))) ≡ step s-args-on (tokens (now (c .entry))) ⌝ }
+    ensures does { λ r. ⌜ Does (now (c .entry)) (now (c .exit)) r (step s-args-on) ⌝ }
     ensures text { λ _. ⌜ text-of (now (c .exit)) ≡ text-of (now (c .entry)) ⌝ }
 {
     if c.accept_sign(Sign::Comma) {

@@ -1,8 +1,7 @@
 ghost use mathlib.Core.Path.{_≡_};
 ghost use Rattle.reader.specs.Symbol.{step, step-data, step-fn, step-item, s-type, s-fields-on, s-some-fields, s-ctors};
 ghost use Rattle.reader.specs.Symbol.{s-ctors-on, s-params, s-params-on, s-some-params, s-drop, s-items};
-ghost use Rattle.reader.specs.Steps.{answered};
-ghost use Rattle.reader.specs.Tokens.{text-of, tokens};
+ghost use Rattle.reader.specs.Tokens.{text-of, Does};
 ghost use Rattle.lexer.specs.Spelling.{spelling};
 use super::action::Action;
 use super::cursor::Cursor;
@@ -15,7 +14,7 @@ use lexer::Sign;
 
 // A type: int, the name of data, or box, ref or mut and a type.
 pub fn ty(c: &mut Cursor) -> Result<Action, Expected>
-    ensures does { λ r. ⌜ answered (text-of (now (c .entry))) r (tokens (now (c .exit))) ≡ step s-type (tokens (now (c .entry))) ⌝ }
+    ensures does { λ r. ⌜ Does (now (c .entry)) (now (c .exit)) r (step s-type) ⌝ }
     ensures text { λ _. ⌜ text-of (now (c .exit)) ≡ text-of (now (c .entry)) ⌝ }
 {
     if c.accept_keyword(Keyword::Int) {
@@ -36,7 +35,7 @@ pub fn ty(c: &mut Cursor) -> Result<Action, Expected>
 
 // Behind a field's type: another one, or the end.
 pub fn fields_on(c: &mut Cursor) -> Result<Action, Expected>
-    ensures does { λ r. ⌜ answered (text-of (now (c .entry))) r (tokens (now (c .exit))) ≡ step s-fields-on (tokens (now (c .entry))) ⌝ }
+    ensures does { λ r. ⌜ Does (now (c .entry)) (now (c .exit)) r (step s-fields-on) ⌝ }
     ensures text { λ _. ⌜ text-of (now (c .exit)) ≡ text-of (now (c .entry)) ⌝ }
 {
     if c.accept_sign(Sign::Comma) {
@@ -48,7 +47,7 @@ pub fn fields_on(c: &mut Cursor) -> Result<Action, Expected>
 
 // A constructor's fields in their bracket, or none.
 pub fn some_fields(c: &mut Cursor) -> Result<Action, Expected>
-    ensures does { λ r. ⌜ answered (text-of (now (c .entry))) r (tokens (now (c .exit))) ≡ step s-some-fields (tokens (now (c .entry))) ⌝ }
+    ensures does { λ r. ⌜ Does (now (c .entry)) (now (c .exit)) r (step s-some-fields) ⌝ }
     ensures text { λ _. ⌜ text-of (now (c .exit)) ≡ text-of (now (c .entry)) ⌝ }
 {
     if c.accept_sign(Sign::LeftParen) {
@@ -59,7 +58,7 @@ pub fn some_fields(c: &mut Cursor) -> Result<Action, Expected>
 
 // A constructor, and those behind it.
 pub fn ctors(c: &mut Cursor) -> Result<Action, Expected>
-    ensures does { λ r. ⌜ answered (text-of (now (c .entry))) r (tokens (now (c .exit))) ≡ step s-ctors (tokens (now (c .entry))) ⌝ }
+    ensures does { λ r. ⌜ Does (now (c .entry)) (now (c .exit)) r (step s-ctors) ⌝ }
     ensures text { λ _. ⌜ text-of (now (c .exit)) ≡ text-of (now (c .entry)) ⌝ }
 {
     let ctor = c.upper()?;
@@ -72,7 +71,7 @@ pub fn ctors(c: &mut Cursor) -> Result<Action, Expected>
 
 // Behind a constructor: another one, or none.
 pub fn ctors_on(c: &mut Cursor) -> Result<Action, Expected>
-    ensures does { λ r. ⌜ answered (text-of (now (c .entry))) r (tokens (now (c .exit))) ≡ step s-ctors-on (tokens (now (c .entry))) ⌝ }
+    ensures does { λ r. ⌜ Does (now (c .entry)) (now (c .exit)) r (step s-ctors-on) ⌝ }
     ensures text { λ _. ⌜ text-of (now (c .exit)) ≡ text-of (now (c .entry)) ⌝ }
 {
     if c.accept_sign(Sign::Bar) {
@@ -83,7 +82,7 @@ pub fn ctors_on(c: &mut Cursor) -> Result<Action, Expected>
 
 // A parameter, and those behind it.
 pub fn params(c: &mut Cursor) -> Result<Action, Expected>
-    ensures does { λ r. ⌜ answered (text-of (now (c .entry))) r (tokens (now (c .exit))) ≡ step s-params (tokens (now (c .entry))) ⌝ }
+    ensures does { λ r. ⌜ Does (now (c .entry)) (now (c .exit)) r (step s-params) ⌝ }
     ensures text { λ _. ⌜ text-of (now (c .exit)) ≡ text-of (now (c .entry)) ⌝ }
 {
     let x = c.lower(Expected::Name)?;
@@ -93,7 +92,7 @@ pub fn params(c: &mut Cursor) -> Result<Action, Expected>
 
 // Behind a parameter: another one, or the end.
 pub fn params_on(c: &mut Cursor) -> Result<Action, Expected>
-    ensures does { λ r. ⌜ answered (text-of (now (c .entry))) r (tokens (now (c .exit))) ≡ step s-params-on (tokens (now (c .entry))) ⌝ }
+    ensures does { λ r. ⌜ Does (now (c .entry)) (now (c .exit)) r (step s-params-on) ⌝ }
     ensures text { λ _. ⌜ text-of (now (c .exit)) ≡ text-of (now (c .entry)) ⌝ }
 {
     if c.accept_sign(Sign::Comma) {
@@ -105,7 +104,7 @@ pub fn params_on(c: &mut Cursor) -> Result<Action, Expected>
 
 // A function's parameters behind the bracket, or none.
 pub fn some_params(c: &mut Cursor) -> Result<Action, Expected>
-    ensures does { λ r. ⌜ answered (text-of (now (c .entry))) r (tokens (now (c .exit))) ≡ step s-some-params (tokens (now (c .entry))) ⌝ }
+    ensures does { λ r. ⌜ Does (now (c .entry)) (now (c .exit)) r (step s-some-params) ⌝ }
     ensures text { λ _. ⌜ text-of (now (c .exit)) ≡ text-of (now (c .entry)) ⌝ }
 {
     if c.accept_sign(Sign::RightParen) {
@@ -116,7 +115,7 @@ pub fn some_params(c: &mut Cursor) -> Result<Action, Expected>
 
 // The end of data: the function that is called when it is dropped, or none.
 pub fn data_end(c: &mut Cursor, name: Name) -> Result<Action, Expected>
-    ensures does { λ r. ⌜ answered (text-of (now (c .entry))) r (tokens (now (c .exit))) ≡ step (s-drop (spelling (text-of (now (c .entry))) name)) (tokens (now (c .entry))) ⌝ }
+    ensures does { λ r. ⌜ Does (now (c .entry)) (now (c .exit)) r (step (s-drop (spelling (text-of (now (c .entry))) name))) ⌝ }
     ensures text { λ _. ⌜ text-of (now (c .exit)) ≡ text-of (now (c .entry)) ⌝ }
 {
     if c.accept_keyword(Keyword::Drop) {
@@ -131,7 +130,7 @@ pub fn data_end(c: &mut Cursor, name: Name) -> Result<Action, Expected>
 
 // Behind data.
 fn data_item(c: &mut Cursor) -> Result<Action, Expected>
-    ensures does { λ r. ⌜ answered (text-of (now (c .entry))) r (tokens (now (c .exit))) ≡ step-data (tokens (now (c .entry))) ⌝ }
+    ensures does { λ r. ⌜ Does (now (c .entry)) (now (c .exit)) r step-data ⌝ }
     ensures text { λ _. ⌜ text-of (now (c .exit)) ≡ text-of (now (c .entry)) ⌝ }
 {
     let name = c.lower(Expected::Name)?;
@@ -141,7 +140,7 @@ fn data_item(c: &mut Cursor) -> Result<Action, Expected>
 
 // Behind fn.
 fn fn_item(c: &mut Cursor) -> Result<Action, Expected>
-    ensures does { λ r. ⌜ answered (text-of (now (c .entry))) r (tokens (now (c .exit))) ≡ step-fn (tokens (now (c .entry))) ⌝ }
+    ensures does { λ r. ⌜ Does (now (c .entry)) (now (c .exit)) r step-fn ⌝ }
     ensures text { λ _. ⌜ text-of (now (c .exit)) ≡ text-of (now (c .entry)) ⌝ }
 {
     let name = c.lower(Expected::Name)?;
@@ -159,7 +158,7 @@ fn fn_item(c: &mut Cursor) -> Result<Action, Expected>
 
 // Data or a function.
 fn item(c: &mut Cursor) -> Result<Action, Expected>
-    ensures does { λ r. ⌜ answered (text-of (now (c .entry))) r (tokens (now (c .exit))) ≡ step-item (tokens (now (c .entry))) ⌝ }
+    ensures does { λ r. ⌜ Does (now (c .entry)) (now (c .exit)) r step-item ⌝ }
     ensures text { λ _. ⌜ text-of (now (c .exit)) ≡ text-of (now (c .entry)) ⌝ }
 {
     if c.accept_keyword(Keyword::Data) {
@@ -173,7 +172,7 @@ fn item(c: &mut Cursor) -> Result<Action, Expected>
 
 // The items, up to the text's end.
 pub fn items(c: &mut Cursor) -> Result<Action, Expected>
-    ensures does { λ r. ⌜ answered (text-of (now (c .entry))) r (tokens (now (c .exit))) ≡ step s-items (tokens (now (c .entry))) ⌝ }
+    ensures does { λ r. ⌜ Does (now (c .entry)) (now (c .exit)) r (step s-items) ⌝ }
     ensures text { λ _. ⌜ text-of (now (c .exit)) ≡ text-of (now (c .entry)) ⌝ }
 {
     if c.at_end() {

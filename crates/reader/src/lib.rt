@@ -2,11 +2,13 @@
 
 mod action;
 mod ahead;
+mod body;
 mod cursor;
 mod error;
 mod expr;
 mod item;
 mod machine;
+mod matching;
 mod reading;
 mod shown;
 mod slots;

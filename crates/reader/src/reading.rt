@@ -3,7 +3,6 @@ ghost use mathlib.Core.Path.{_≡_};
 ghost use lib.Dec.{leb};
 ghost use Rattle.std.specs.Numbers.{Checked};
 ghost use Rattle.reader.specs.Answer.{Answer};
-use super::error::Misread;
 use super::error::MisreadReadError;
 use super::error::ReadError;
 use super::machine::run;

@@ -1,13 +1,15 @@
 ghost use mathlib.Core.Path.{_≡_};
 ghost use Rattle.reader.specs.Symbol.{step as step-of, s-token};
 ghost use Rattle.lexer.specs.Tokens.{spelled, drawn};
-ghost use Rattle.reader.specs.Steps.{answered, symbol-of};
-ghost use Rattle.reader.specs.Tokens.{text-of, tokens};
+ghost use Rattle.reader.specs.Steps.{symbol-of};
+ghost use Rattle.reader.specs.Tokens.{text-of, Does};
 use super::action::Action;
+use super::body;
 use super::cursor::Cursor;
 use super::error::Expected;
 use super::expr;
 use super::item;
+use super::matching;
 use super::stmt;
 use super::symbol::Symbol;
 use code::Instr;
@@ -16,7 +18,7 @@ use lexer::Sign;
 
 // A keyword that has to stand here.
 fn keyword(c: &mut Cursor, k: Keyword) -> Result<Action, Expected>
-    ensures does { λ r. ⌜ answered (text-of (now (c .entry))) r (tokens (now (c .exit))) ≡ step-of (s-token (spelled k)) (tokens (now (c .entry))) ⌝ }
+    ensures does { λ r. ⌜ Does (now (c .entry)) (now (c .exit)) r (step-of (s-token (spelled k))) ⌝ }
     ensures text { λ _. ⌜ text-of (now (c .exit)) ≡ text-of (now (c .entry)) ⌝ }
 {
     c.expect_keyword(k)?;
@@ -25,7 +27,7 @@ fn keyword(c: &mut Cursor, k: Keyword) -> Result<Action, Expected>
 
 // A sign that has to stand here.
 fn sign(c: &mut Cursor, s: Sign) -> Result<Action, Expected>
-    ensures does { λ r. ⌜ answered (text-of (now (c .entry))) r (tokens (now (c .exit))) ≡ step-of (s-token (drawn s)) (tokens (now (c .entry))) ⌝ }
+    ensures does { λ r. ⌜ Does (now (c .entry)) (now (c .exit)) r (step-of (s-token (drawn s))) ⌝ }
     ensures text { λ _. ⌜ text-of (now (c .exit)) ≡ text-of (now (c .entry)) ⌝ }
 {
     c.expect_sign(s)?;
@@ -34,7 +36,7 @@ fn sign(c: &mut Cursor, s: Sign) -> Result<Action, Expected>
 
 // One step: what stands in the place of the symbol that was on top.
 pub fn step(c: &mut Cursor, symbol: Symbol) -> Result<Action, Expected>
-    ensures does { λ r. ⌜ answered (text-of (now (c .entry))) r (tokens (now (c .exit))) ≡ step-of (symbol-of (text-of (now (c .entry))) symbol) (tokens (now (c .entry))) ⌝ }
+    ensures does { λ r. ⌜ Does (now (c .entry)) (now (c .exit)) r (step-of (symbol-of (text-of (now (c .entry))) symbol)) ⌝ }
     ensures text { λ _. ⌜ text-of (now (c .exit)) ≡ text-of (now (c .entry)) ⌝ }
 {
     match symbol {
@@ -55,14 +57,14 @@ pub fn step(c: &mut Cursor, symbol: Symbol) -> Result<Action, Expected>
         Symbol::Primary => expr::primary(c),
         Symbol::Args => Ok(Action::Push3([Symbol::Expr, Symbol::Emit(Instr::Arg), Symbol::ArgsOn])),
         Symbol::ArgsOn => expr::args_on(c),
-        Symbol::Names => stmt::names(c),
-        Symbol::SomeNames => stmt::some_names(c),
+        Symbol::Names => matching::names(c),
+        Symbol::SomeNames => matching::some_names(c),
         Symbol::Stmts => stmt::stmts(c),
-        Symbol::Block => stmt::block(c),
-        Symbol::Alts => stmt::alts(c),
-        Symbol::Body => stmt::body(c),
-        Symbol::Tail => stmt::tail(c),
-        Symbol::Arms => stmt::arms(c),
+        Symbol::Block => body::block(c),
+        Symbol::Alts => matching::alts(c),
+        Symbol::Body => body::body(c),
+        Symbol::Tail => body::tail(c),
+        Symbol::Arms => matching::arms(c),
         Symbol::Ty => item::ty(c),
         Symbol::Fields => Ok(Action::Push3([
             Symbol::Ty,
