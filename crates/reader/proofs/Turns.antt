@@ -23,9 +23,11 @@ use Rattle.reader.specs.Steps.{symbol-of, symbols-of, action-of}
 use Rattle.reader.specs.Stack.{symbol-at, stack-in}
 use Rattle.reader.specs.Machine.{pushed, given, Performed, Read}
 use Rattle.reader.proofs.OnStack.{tall}
-use Rattle.reader.proofs.ReadRun.{After, Kept, kept, kept-start, kept-fails, kept-ends, measure, height, room-height}
+use Rattle.reader.proofs.ReadRun.{After, Kept, kept, kept-start, kept-fails, kept-ends, measure, height}
+use Rattle.reader.proofs.ReadRun.{room-height}
 
-symbols-++ : (text : List ℕ) (a b : List Symbol) → symbols-of text (a ++ b) ≡ symbols-of text a ++ symbols-of text b
+symbols-++ : (text : List ℕ) (a b : List Symbol) → symbols-of text (a ++ b) ≡ symbols-of text a ++
+    symbols-of text b
 symbols-++ text [] b = refl
 symbols-++ text (s ∷ a) b = ap (λ (k : List spec.Symbol). symbol-of text s ∷ k) (symbols-++ text a b)
 
@@ -35,7 +37,8 @@ symbols-long text (s ∷ k) = ap suc (symbols-long text k)
 
 -- an action that was performed is what the step says
 after : (text : List ℕ) (a : Action) (ts : List Lexeme) (k k1 : List spec.Symbol) (o o1 : List Instr) →
-    k1 ≡ symbols-of text (pushed a) ++ k → o1 ≡ o ++ map (means text) (given a) → After (action-of text a ts) k o k1 ts o1
+    k1 ≡ symbols-of text (pushed a) ++ k → o1 ≡ o ++ map (means text) (given a) →
+    After (action-of text a ts) k o k1 ts o1
 after text (Emit i) ts k k1 o o1 e f = (e, refl, f)
 after text Push0 ts k k1 o o1 e f = (e, refl, f ∙ append-nil o)
 after text (Push1 ss) ts k k1 o o1 e f = (e, refl, f ∙ append-nil o)
@@ -48,13 +51,15 @@ after text (Push8 ss) ts k k1 o o1 e f = (e, refl, f ∙ append-nil o)
 
 -- what the loop keeps of its words, and its measure
 pub record Going (text words : List ℕ) (base : ℕ) (at : Progress) (ts : List Lexeme) : Type 0 where
-  pub state : Kept (tokenize idle text) (symbols-of text (stack-in words base (at .height))) ts (code-in text words (at .made))
+  pub state : Kept (tokenize idle text) (symbols-of text (stack-in words base (at .height))) ts
+      (code-in text words (at .made))
   pub filled : Filled words (at .made)
 
 abbrev pub left-over : List ℕ → List ℕ → ℕ → Progress → List Lexeme → ℕ
 left-over text words base at ts = measure (symbols-of text (stack-in words base (at .height))) ts
 
-pub begun : (text words : List ℕ) (base : ℕ) (none-yet at : Progress) (before : List ℕ) → none-yet .height ≡ 0 → none-yet .made ≡ 0 →
+pub begun : (text words : List ℕ) (base : ℕ) (none-yet at : Progress) (before : List ℕ) → none-yet .height ≡ 0 →
+    none-yet .made ≡ 0 →
     Performed base (Items ∷ []) [] before none-yet words at → Going text words base at (tokenize idle text)
 begun text words base none-yet at before z n p = record { state = start; filled = full }
   where
@@ -70,10 +75,12 @@ begun text words base none-yet at before z n p = record { state = start; filled 
     full : Filled words (at .made)
     full = p .filled (ap (λ k. length (instrs-in before k)) n ∙ sym n)
 
-    start : Kept (tokenize idle text) (symbols-of text (stack-in words base (at .height))) (tokenize idle text) (code-in text words (at .made))
+    start : Kept (tokenize idle text) (symbols-of text (stack-in words base (at .height))) (tokenize idle text)
+        (code-in text words (at .made))
     start = rw (stack, code) (kept-start (tokenize idle text))
 
-module _ (text words : List ℕ) (base : ℕ) (at : Progress) (ts : List Lexeme) (g : Going text words base at ts) where
+module _ (text words : List ℕ) (base : ℕ) (at : Progress) (ts : List Lexeme)
+    (g : Going text words base at ts) where
   made-long : length (code-in text words (at .made)) ≡ at .made
   made-long = length-map (instrs-in words (at .made)) (means text) ∙ g .filled
 
@@ -91,15 +98,18 @@ module _ (text words : List ℕ) (base : ℕ) (at : Progress) (ts : List Lexeme)
   -- the end
   pub done : at .height ≡ 0 → Read text words (at .made)
   done z =
-      let stack : symbols-of text (stack-in words base (at .height)) ≡ [] = ap (λ n. symbols-of text (stack-in words base n)) z in
+      let stack : symbols-of text (stack-in words base (at .height)) ≡ [] =
+      ap (λ n. symbols-of text (stack-in words base n)) z in
       let o = code-in text words (at .made) in
-      let s : Kept (tokenize idle text) [] ts o = subst (λ k. Kept (tokenize idle text) k ts o) stack (g .state) in
+      let s : Kept (tokenize idle text) [] ts o =
+      subst (λ k. Kept (tokenize idle text) k ts o) stack (g .state) in
       let b = room-height (tokenize idle text) [] ts o (s .room) in
       let n = few-words text in
       let m = made-long in
       record { coded = kept-ends text ts o s; filled = g .filled; few = omega arith; grown = omega arith }
 
-  module _ (s : Symbol) (below : Progress) (pos : 0 < at .height) (down : below .height ≡ at .height - 1) (still : below .made ≡ at .made)
+  module _ (s : Symbol) (below : Progress) (pos : 0 < at .height) (down : below .height ≡ at .height - 1)
+      (still : below .made ≡ at .made)
       (top : s ≡ symbol-at words (base + below .height)) where
     shown : stack-in words base (at .height) ≡ s ∷ stack-in words base (below .height)
     shown =
@@ -114,7 +124,8 @@ module _ (text words : List ℕ) (base : ℕ) (at : Progress) (ts : List Lexeme)
 
     state : Kept (tokenize idle text) (symbol-of text s ∷ rest) ts code
     unfolding rest code
-    state = subst (λ (k : List Symbol). Kept (tokenize idle text) (symbols-of text k) ts (code-in text words (at .made))) shown (g .state)
+    state = subst (λ (k : List Symbol). Kept (tokenize idle text) (symbols-of text k) ts
+        (code-in text words (at .made))) shown (g .state)
 
     -- a step that refuses
     pub failed : spec.fail ≡ spec.step (symbol-of text s) ts → reads text ≡ none

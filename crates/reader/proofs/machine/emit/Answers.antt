@@ -20,7 +20,8 @@ returns c =
     record {
       stack =
           ap (λ ws. stack-in ws base h) e
-          ∙ same-stack words (with-slot words n (slot-of i)) base h (λ j low high. word-behind words n (slot-of i) j (omega arith));
+          ∙ same-stack words (with-slot words n (slot-of i)) base h
+          (λ j low high. word-behind words n (slot-of i) j (omega arith));
       code = λ text. ap (λ ws. code-in text ws (n + 1)) e ∙ code-put text words n i (omega arith);
       filled = λ full. rw e (filled-put words n i (omega arith) full);
     }

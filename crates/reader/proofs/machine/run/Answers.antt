@@ -12,24 +12,29 @@ use Rattle.reader.proofs.machine.run.Needs as need
 
 pub loop-at-holds : need.loop-at-holds
 loop-at-holds c = (
-  subst (Going (c .args .text .now) (c .pile-at .last .words) (c .args .base) (c .pile-at .result)) (sym (c .new-cursor .ensures .all))
-      (begun (c .args .text .now) (c .pile-at .last .words) (c .args .base) _ (c .pile-at .result) (c .args .words .now) refl refl (c .pile-at .ensures)),
+  subst (Going (c .args .text .now) (c .pile-at .last .words) (c .args .base) (c .pile-at .result))
+      (sym (c .new-cursor .ensures .all))
+      (begun (c .args .text .now) (c .pile-at .last .words) (c .args .base) _ (c .pile-at .result)
+      (c .args .words .now) refl refl (c .pile-at .ensures)),
   c .new-cursor .ensures .text,
 )
 
 pub add-base : need.add-base
 add-base c =
-    let b = bounded (c .args .text .now) (c .loop-at .words) (c .args .base) (c .loop-at .at) (tokens (c .loop-at .cursor)) (c .loop-at .inv .0) in
+    let b = bounded (c .args .text .now) (c .loop-at .words) (c .args .base) (c .loop-at .at)
+    (tokens (c .loop-at .cursor)) (c .loop-at .inv .0) in
     omega arith
 
 pub held-at-symbol-requires : need.held-at-symbol-requires
 held-at-symbol-requires c κs =
-    let b = bounded (c .args .text .now) (c .loop-at .words) (c .args .base) (c .loop-at .at) (tokens (c .loop-at .cursor)) (c .loop-at .inv .0) in
+    let b = bounded (c .args .text .now) (c .loop-at .words) (c .args .base) (c .loop-at .at)
+    (tokens (c .loop-at .cursor)) (c .loop-at .inv .0) in
     omega arith
 
 pub perform-at-requires : need.perform-at-requires
 perform-at-requires c κs =
-    let b = bounded (c .args .text .now) (c .loop-at .words) (c .args .base) (c .loop-at .at) (tokens (c .loop-at .cursor)) (c .loop-at .inv .0) in
+    let b = bounded (c .args .text .now) (c .loop-at .words) (c .args .base) (c .loop-at .at)
+    (tokens (c .loop-at .cursor)) (c .loop-at .inv .0) in
     omega arith
 
 -- what the step said, over the text itself
@@ -41,16 +46,23 @@ below : Progress → Progress
 below at = record { height = at .height - 1; made = at .made }
 
 went : (c : need.After-slice-known-in-Ok·1) →
-    Going (c .args .text .now) (c .perform-at .last .words) (c .args .base) (c .perform-at .result) (tokens (c .step .last .c))
-    × (left-over (c .args .text .now) (c .perform-at .last .words) (c .args .base) (c .perform-at .result) (tokens (c .step .last .c))
-    < left-over (c .args .text .now) (c .loop-at .words) (c .args .base) (c .loop-at .at) (tokens (c .loop-at .cursor)))
+    Going (c .args .text .now) (c .perform-at .last .words) (c .args .base) (c .perform-at .result)
+    (tokens (c .step .last .c))
+    × (left-over (c .args .text .now) (c .perform-at .last .words) (c .args .base) (c .perform-at .result)
+    (tokens (c .step .last .c))
+    < left-over (c .args .text .now) (c .loop-at .words) (c .args .base) (c .loop-at .at)
+    (tokens (c .loop-at .cursor)))
 unfolding below
 went c =
-    turned (c .args .text .now) (c .loop-at .words) (c .args .base) (c .loop-at .at) (tokens (c .loop-at .cursor)) (c .loop-at .inv .0)
-    (c .held-at-symbol .result) (below (c .loop-at .at)) (c .loop-at-test .taken) refl refl (c .held-at-symbol .ensures)
+    turned (c .args .text .now) (c .loop-at .words) (c .args .base) (c .loop-at .at)
+    (tokens (c .loop-at .cursor)) (c .loop-at .inv .0)
+    (c .held-at-symbol .result) (below (c .loop-at .at)) (c .loop-at-test .taken) refl refl
+    (c .held-at-symbol .ensures)
     (c .in-Ok .action) (tokens (c .step .last .c)) (c .perform-at .last .words) (c .perform-at .result)
-    (on-text (c .args .text .now) (text-of (c .loop-at .cursor)) (λ t. action-of t (c .in-Ok .action) (tokens (c .step .last .c)))
-    (λ t. step (symbol-of t (c .held-at-symbol .result)) (tokens (c .loop-at .cursor))) (c .loop-at .inv .1) (c .in-Ok .ensures tt .does))
+    (on-text (c .args .text .now) (text-of (c .loop-at .cursor))
+    (λ t. action-of t (c .in-Ok .action) (tokens (c .step .last .c)))
+    (λ t. step (symbol-of t (c .held-at-symbol .result)) (tokens (c .loop-at .cursor))) (c .loop-at .inv .1)
+    (c .in-Ok .ensures tt .does))
     (c .perform-at .ensures)
 
 pub loop-at-less : need.loop-at-less
@@ -63,12 +75,17 @@ pub returns-in-Err : need.returns-in-Err
 unfolding below
 returns-in-Err c = record {
   none-read =
-      failed (c .args .text .now) (c .loop-at .words) (c .args .base) (c .loop-at .at) (tokens (c .loop-at .cursor)) (c .loop-at .inv .0)
-      (c .held-at-symbol .result) (below (c .loop-at .at)) (c .loop-at-test .taken) refl refl (c .held-at-symbol .ensures)
+      failed (c .args .text .now) (c .loop-at .words) (c .args .base) (c .loop-at .at)
+      (tokens (c .loop-at .cursor)) (c .loop-at .inv .0)
+      (c .held-at-symbol .result) (below (c .loop-at .at)) (c .loop-at-test .taken) refl refl
+      (c .held-at-symbol .ensures)
       (on-text (c .args .text .now) (text-of (c .loop-at .cursor)) (λ t. fail)
-      (λ t. step (symbol-of t (c .held-at-symbol .result)) (tokens (c .loop-at .cursor))) (c .loop-at .inv .1) (c .in-Err .ensures tt .does));
-  within = subst (λ t. c .misread .result .place ≤ length t) (c .step .ensures .text ∙ c .loop-at .inv .1) (c .misread .ensures .within);
+      (λ t. step (symbol-of t (c .held-at-symbol .result)) (tokens (c .loop-at .cursor))) (c .loop-at .inv .1)
+      (c .in-Err .ensures tt .does));
+  within = subst (λ t. c .misread .result .place ≤ length t) (c .step .ensures .text ∙ c .loop-at .inv .1)
+      (c .misread .ensures .within);
 }
 
 pub returns : need.returns
-returns c = done (c .args .text .now) (c .loop-at .words) (c .args .base) (c .loop-at .at) (tokens (c .loop-at .cursor)) (c .loop-at .inv .0) (omega arith)
+returns c = done (c .args .text .now) (c .loop-at .words) (c .args .base) (c .loop-at .at)
+    (tokens (c .loop-at .cursor)) (c .loop-at .inv .0) (omega arith)
