@@ -7,6 +7,7 @@ use lib.ListN.{length}
 use Rattle.std.specs.declared.result.Result.{Result}
 use Rattle.std.specs.declared.result.Result.the-variants.{Ok, Err}
 use Rattle.language.specs.Text.{reads}
+use Rattle.lexer.specs.Places.{from-place}
 use Rattle.code.specs.declared.instr.Instr.{Instr}
 use Rattle.code.specs.Means.{means}
 use Rattle.code.specs.Words.{code-in, Filled}
@@ -16,6 +17,7 @@ use Rattle.reader.specs.declared.action.Action.the-variants.{Emit, Push0, Push
 use Rattle.reader.specs.declared.action.Action.the-variants.{Push6, Push7, Push8}
 use Rattle.reader.specs.declared.machine.Progress.{Progress}
 use Rattle.reader.specs.declared.error.Misread.{Misread}
+use Rattle.reader.specs.Steps.{Stands}
 use Rattle.reader.specs.Stack.{stack-in}
 use Rattle.reader.specs.Growth.{growth}
 use Rattle.reader.specs.Reader.{Coded}
@@ -58,10 +60,10 @@ pub record Read (text words : List ℕ) (count : ℕ) : Type 0 where
   pub few : count ≤ 3 * length text
   pub grown : growth (code-in text words count) ≤ length text
 
--- or the definition reads nothing
+-- or the definition reads nothing, and this token stands at that place
 pub record Refused (text : List ℕ) (e : Misread) : Type 0 where
   pub none-read : reads text ≡ none
-  pub within : e .place ≤ length text
+  pub stands : Stands text e (from-place text (e .place))
 
 -- which of the two, with enough words
 abbrev pub Reading : List ℕ → List ℕ → Result ℕ Misread → Type 0

@@ -9,6 +9,7 @@ use Rattle.language.specs.Text.{peek, skip-one, is-number, value-of, sign-on, a
 use Rattle.language.specs.Text.{kw-else, kw-give, sg-rp, sg-rc, sg-semi, sg-colon}
 use Rattle.lexer.specs.declared.name.Name.{Name}
 use Rattle.lexer.specs.Spelling.{spelling}
+use Rattle.lexer.specs.Left.{Begins, Next}
 use Rattle.code.specs.Means.{means, op-number, access-of}
 use Rattle.code.specs.declared.instr.Operator.{Operator}
 use Rattle.code.specs.declared.instr.Access.{Access}
@@ -29,6 +30,7 @@ use Rattle.reader.specs.declared.action.Action.{Action}
 use Rattle.reader.specs.declared.action.Action.the-variants.{Emit, Push0, Push1, Push2, Push3, Push4}
 use Rattle.reader.specs.declared.action.Action.the-variants.{Push6, Push7, Push8}
 use Rattle.reader.specs.declared.error.Expected.{Expected}
+use Rattle.reader.specs.declared.error.Misread.{Misread}
 use Rattle.reader.specs.Symbol as spec
 
 abbrev pub symbol-of : List ℕ → Symbol → spec.Symbol
@@ -132,3 +134,8 @@ Told text ok o w = Cases o (ok w ≡ false) (λ name. (ok w ≡ true) × (spelli
 -- a number with its value, a number with none, or none
 abbrev pub Valued : Maybe (Maybe ℕ) → Lexeme → Type 0
 Valued o w = Cases o (is-number w ≡ false) (λ v. (is-number w ≡ true) × Cases v (value-of w ≡ none) (λ n. value-of w ≡ some n))
+
+-- a refusal's place is where the first of these lexemes begins, or the end of the text; its token is that lexeme's
+pub record Stands (text : List ℕ) (e : Misread) (ws : List Lexeme) : Type 0 where
+  pub place : Begins text (e .place) ws
+  pub found : Next text (e .found) ws

@@ -1,12 +1,10 @@
-ghost use Prim.Native.Nat.{_≤_};
 ghost use mathlib.Core.Path.{_≡_};
 ghost use Rattle.language.specs.Base.{same, choose};
 ghost use Rattle.language.specs.Text.{peek, skip-one, is-lower, is-upper, tokenize, idle};
 ghost use Rattle.lexer.specs.Left.{Next};
 ghost use Rattle.lexer.specs.Tokens.{spelled, drawn};
-ghost use Rattle.reader.specs.Steps.{Told, Valued, Named, Perhaps, Past, Counted, none-left};
+ghost use Rattle.reader.specs.Steps.{Told, Valued, Named, Perhaps, Past, Counted, Stands, none-left};
 ghost use Rattle.reader.specs.Tokens.{text-of, tokens};
-ghost use lib.ListN.{length};
 use super::ahead;
 use super::error::Expected;
 use super::error::Misread;
@@ -47,7 +45,7 @@ impl<'a> Cursor<'a> {
 
     // The token ahead is none that may stand there.
     pub fn misread(&self, expected: Expected) -> Misread
-        ensures within { λ r. ⌜ r .place ≤ length (text-of (now (self .entry))) ⌝ }
+        ensures { λ r. ⌜ Stands (text-of (now (self .entry))) r (tokens (now (self .entry))) ⌝ }
     {
         Misread {
             place: self.lexer.place(),

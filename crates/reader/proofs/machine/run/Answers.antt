@@ -1,10 +1,13 @@
 use mathlib.Core.Path.{_≡_, refl, sym, ap, _∙_, subst}
 use mathlib.Core.List.{List}
-use Prim.Native.Nat.{ℕ, _-_, _<_, _≤_}
+use Prim.Native.Nat.{ℕ, _-_, _<_}
 use native.Mathlib.Omega.{arith}
-use lib.ListN.{length}
 use Rattle.reader.specs.Symbol.{step, fail}
-use Rattle.reader.specs.Steps.{symbol-of, action-of}
+use Rattle.language.specs.Base.{Lexeme}
+use Rattle.lexer.specs.Left.{Next}
+use Rattle.lexer.specs.Places.{from-place}
+use Rattle.reader.specs.declared.error.Misread.{Misread}
+use Rattle.reader.specs.Steps.{Stands, symbol-of, action-of}
 use Rattle.reader.specs.Tokens.{text-of, tokens}
 use Rattle.reader.specs.declared.machine.Progress.{Progress}
 use Rattle.reader.proofs.Turns.{Going, left-over, begun, bounded, done, failed, turned}
@@ -40,6 +43,13 @@ perform-at-requires c κs =
 -- what the step said, over the text itself
 on-text : {D : Type 0} (text now : List ℕ) (A B : List ℕ → D) → now ≡ text → A now ≡ B now → A text ≡ B text
 on-text text now A B e h = ap A (sym e) ∙ h ∙ ap B e
+
+-- what is left begins at the place
+standing : {text : List ℕ} (e : Misread) (ws : List Lexeme) → Stands text e ws → Stands text e (from-place text (e .place))
+standing {text} e ws s = record {
+  place = record { within = s .place .within; rest = refl; no-blank = s .place .no-blank };
+  found = subst (Next text (e .found)) (sym (s .place .rest)) (s .found);
+}
 
 -- one symbol less
 below : Progress → Progress
@@ -82,8 +92,10 @@ returns-in-Err c = record {
       (on-text (c .args .text .now) (text-of (c .loop-at .cursor)) (λ t. fail)
       (λ t. step (symbol-of t (c .held-at-symbol .result)) (tokens (c .loop-at .cursor))) (c .loop-at .inv .1)
       (c .in-Err .ensures tt .does));
-  within = subst (λ t. c .misread .result .place ≤ length t) (c .step .ensures .text ∙ c .loop-at .inv .1)
-      (c .misread .ensures .within);
+  stands =
+      standing (c .misread .result) (tokens (c .step .last .c))
+      (subst (λ t. Stands t (c .misread .result) (tokens (c .step .last .c)))
+      (c .step .ensures .text ∙ c .loop-at .inv .1) (c .misread .ensures));
 }
 
 pub returns : need.returns
