@@ -1,0 +1,13 @@
+pub mod Flat
+pub mod Ranks
+pub mod Joints
+pub mod ReadSymbol
+pub mod ReadExpr
+pub mod ReadStmt
+pub mod ReadItem
+pub mod ReadStep
+pub mod Bounds
+pub mod ReadInvariant
+pub mod ReadRun
+pub mod OnStack
+pub mod Turns
