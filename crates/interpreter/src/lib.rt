@@ -1,0 +1,12 @@
+// Any text of the language, run on trees: slow and plain, and looking at every step whether something is there.
+mod drops;
+mod eval;
+mod exec;
+mod machine;
+mod memory;
+mod pools;
+pub mod run;
+mod sizes;
+pub mod stop;
+mod task;
+mod value;
