@@ -1,13 +1,14 @@
 // Names end, and values are dropped.
 use crate::machine::Machine;
-use crate::sizes::home_of;
-use crate::stop::Stop;
-use crate::stop::StopFromRefused;
+use model_memory::sizes::home_of;
+use model_memory::stop::Stop;
+use model_memory::stop::StopFromRefused;
 use crate::task::Task;
-use crate::value::Fields;
-use crate::value::Place;
-use crate::value::RootId;
-use crate::value::Value;
+use model_memory::value::Fields;
+use model_memory::value::Parts;
+use model_memory::value::Place;
+use model_memory::value::RootId;
+use model_memory::value::Value;
 use model_text::tree::Name;
 
 impl<'p> Machine<'p> {
@@ -25,13 +26,15 @@ impl<'p> Machine<'p> {
     }
 
     pub fn drop_value(&mut self, value: Value) -> Result<(), Stop> {
-        match value {
-            Value::Number(_) | Value::Hole => Ok(()),
-            Value::Reference(_place) => Ok(()),
-            Value::Box(root) => self.drop_box(root),
-            Value::Data(ctor, below, fields) => match self.last_of(ctor)? {
-                None => self.later(Task::DropAll(Box::into_inner(fields))),
-                Some(last) => self.call_last(last, Value::Data(ctor, below, fields)),
+        match value.parts() {
+            Parts::Number(_) | Parts::Reference(_) | Parts::Hole => Ok(()),
+            Parts::Box(root) => self.drop_box(root),
+            Parts::Data(ctor, fields) => match self.last_of(ctor)? {
+                None => self.later(Task::DropAll(fields)),
+                Some(last) => {
+                    let whole = Value::data(self.heap, ctor, fields)?;
+                    self.call_last(last, whole)
+                }
             },
         }
     }
@@ -78,19 +81,18 @@ impl<'p> Machine<'p> {
     // Behind a last function: the fields are dropped, as it left them.
     pub fn end_last(&mut self, root: RootId) -> Result<(), Stop> {
         let _given = self.pop()?;
-        match self.memory.end(root)? {
-            Value::Data(_, _, fields) => self.later(Task::DropAll(Box::into_inner(fields))),
-            Value::Number(_) | Value::Box(_) | Value::Hole => Ok(()),
-            Value::Reference(_place) => Ok(()),
+        match self.memory.end(root)?.parts() {
+            Parts::Data(_, fields) => self.later(Task::DropAll(fields)),
+            Parts::Number(_) | Parts::Box(_) | Parts::Reference(_) | Parts::Hole => Ok(()),
         }
     }
 
     pub fn drop_all(&mut self, fields: Fields) -> Result<(), Stop> {
-        match fields {
-            Fields::NoFields => Ok(()),
-            Fields::Field(first, rest) => {
-                self.later(Task::DropAll(Box::into_inner(rest)))?;
-                self.later(Task::Drop(Box::into_inner(first)))
+        match fields.split() {
+            None => Ok(()),
+            Some((first, rest)) => {
+                self.later(Task::DropAll(rest))?;
+                self.later(Task::Drop(first))
             }
         }
     }

@@ -1,11 +1,11 @@
 // Expressions, and calls.
 use crate::machine::Machine;
-use crate::stop::Stop;
-use crate::stop::StopFromRefused;
+use model_memory::stop::Stop;
+use model_memory::stop::StopFromRefused;
 use crate::task::Task;
-use crate::value::Fields;
-use crate::value::Place;
-use crate::value::Value;
+use model_memory::value::Fields;
+use model_memory::value::Place;
+use model_memory::value::Value;
 use model_text::tree::Expr;
 use model_text::tree::Exprs;
 use model_text::tree::Name;
@@ -108,7 +108,7 @@ impl<'p> Machine<'p> {
     // The values above the height, as fields.
     pub fn construct(&mut self, ctor: Name, height: usize) -> Result<(), Stop> {
         let mut fields = Fields::NoFields;
-        while self.values.len() > height {
+        for _ in 0..self.values.len().saturating_sub(height) {
             let last = self.pop()?;
             fields = Fields::Field(Box::new(self.heap, last)?, Box::new(self.heap, fields)?);
         }
@@ -130,7 +130,7 @@ impl<'p> Machine<'p> {
     // The values above the height, the last one first.
     fn arguments(&mut self, height: usize) -> Result<Vec<Value>, Stop> {
         let mut found = Vec::new(self.heap);
-        while self.values.len() > height {
+        for _ in 0..self.values.len().saturating_sub(height) {
             found.push(self.pop()?)?;
         }
         Ok(found)

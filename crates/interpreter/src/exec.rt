@@ -1,11 +1,11 @@
 // Statements and bodies.
 use crate::machine::Machine;
-use crate::stop::Stop;
-use crate::stop::StopFromRefused;
+use model_memory::stop::Stop;
+use model_memory::stop::StopFromRefused;
 use crate::task::Task;
-use crate::value::Fields;
-use crate::value::Place;
-use crate::value::Value;
+use model_memory::value::Parts;
+use model_memory::value::Place;
+use model_memory::value::Value;
 use model_text::tree::Access;
 use model_text::tree::Alts;
 use model_text::tree::Arms;
@@ -212,21 +212,19 @@ impl<'p> Machine<'p> {
     }
 
     fn bind_fields(&mut self, whole: Value, count: usize, names: &Vec<Name>) -> Result<(), Stop> {
-        let Value::Data(_, _, fields) = whole else {
+        let Parts::Data(_, fields) = whole.parts() else {
             return Err(Stop::Wrong);
         };
         if names.len() != count {
             return Err(Stop::Wrong);
         }
-        let mut left = Box::into_inner(fields);
+        let mut left = fields;
         for name in names.iter() {
-            match left {
-                Fields::NoFields => return Err(Stop::Wrong),
-                Fields::Field(first, rest) => {
-                    self.bind(*name, Box::into_inner(first))?;
-                    left = Box::into_inner(rest);
-                }
-            }
+            let Some((first, rest)) = left.split() else {
+                return Err(Stop::Wrong);
+            };
+            self.bind(*name, first)?;
+            left = rest;
         }
         Ok(())
     }

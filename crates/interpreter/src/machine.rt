@@ -1,13 +1,14 @@
 // The machine: memory, names in scope, what is under way, and the single steps that all the rest is made of.
-use crate::memory::Memory;
-use crate::pools::Pools;
-use crate::sizes::Sizes;
-use crate::stop::Stop;
-use crate::stop::StopFromRefused;
+use model_memory::memory::Memory;
+use model_memory::pools::Pools;
+use model_memory::sizes::Sizes;
+use model_memory::stop::Stop;
+use model_memory::stop::StopFromRefused;
 use crate::task::Task;
-use crate::value::Place;
-use crate::value::RootId;
-use crate::value::Value;
+use model_memory::value::Parts;
+use model_memory::value::Place;
+use model_memory::value::RootId;
+use model_memory::value::Value;
 use model_text::tree::Name;
 use model_text::tree::NamePartialEq;
 use model_text::tree::Program;
@@ -63,9 +64,9 @@ impl<'p> Machine<'p> {
     }
 
     pub fn pop_number(&mut self) -> Result<u64, Stop> {
-        match self.pop()? {
-            Value::Number(k) => Ok(k),
-            Value::Data(_, _, _) | Value::Box(_) | Value::Reference(_) | Value::Hole => Err(Stop::Wrong),
+        match self.pop()?.parts() {
+            Parts::Number(k) => Ok(k),
+            Parts::Data(_, _) | Parts::Box(_) | Parts::Reference(_) | Parts::Hole => Err(Stop::Wrong),
         }
     }
 
@@ -91,12 +92,11 @@ impl<'p> Machine<'p> {
 
     // The root of the newest such name of the call that runs.
     pub fn root_of(&self, name: Name) -> Result<RootId, Stop> {
-        let mut at = self.names.len();
-        while at > self.base {
-            at -= 1;
-            let one = self.names[at];
-            if one.name == name {
-                return Ok(one.root);
+        for at in (self.base..self.names.len()).rev() {
+            if let Some(one) = self.names.get(at) {
+                if one.name == name {
+                    return Ok(one.root);
+                }
             }
         }
         Err(Stop::Wrong)

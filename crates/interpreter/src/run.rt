@@ -1,14 +1,14 @@
 // A whole run of a text.
 use crate::machine::Machine;
-use crate::memory::Memory;
-use crate::pools::Pools;
-use crate::sizes::Sizes;
-use crate::stop::Stop;
-use crate::stop::StopFromAlloc;
-use crate::stop::StopFromFault;
-use crate::stop::StopFromRefused;
+use model_memory::memory::Memory;
+use model_memory::pools::Pools;
+use model_memory::sizes::Sizes;
+use model_memory::stop::Stop;
+use model_memory::stop::StopFromAlloc;
+use model_memory::stop::StopFromFault;
+use model_memory::stop::StopFromRefused;
 use crate::task::Task;
-use crate::value::Value;
+use model_memory::value::Value;
 use model_text::parse::read;
 use model_text::tree::Program;
 use std::alloc::Global;
@@ -119,7 +119,7 @@ fn start<'p>(heap: Global, program: &'p Program, sizes: Sizes, limits: Limits, i
     }
 }
 
-fn used(machine: &Machine) -> Used {
+fn usage_of(machine: &Machine) -> Used {
     Used { heap: machine.pools.peaks(), stack: machine.most_under, turns: machine.turns }
 }
 
@@ -127,7 +127,7 @@ fn run_program(heap: Global, program: &Program, limits: Limits, inputs: Vec<u64>
     let sizes = Sizes::new(heap, program)?;
     let mut machine = start(heap, program, sizes, limits, inputs);
     let end = machine.run_main();
-    let used = used(&machine);
+    let used = usage_of(&machine);
     let mut shown = Vec::new(heap);
     mem::swap(&mut shown, &mut machine.outputs);
     Ok(Outcome { end, shown, used })

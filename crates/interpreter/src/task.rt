@@ -1,7 +1,7 @@
 // What is still to be done. A machine keeps these on a stack of its own, so that no text uses up the host's stack.
-use crate::value::Fields;
-use crate::value::RootId;
-use crate::value::Value;
+use model_memory::value::Fields;
+use model_memory::value::RootId;
+use model_memory::value::Value;
 use model_text::tree::Block;
 use model_text::tree::Body;
 use model_text::tree::Expr;

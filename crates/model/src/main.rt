@@ -3,7 +3,7 @@
 use interpreter::run::Limits;
 use interpreter::run::Outcome;
 use interpreter::run::run_text;
-use interpreter::stop::Stop;
+use model_memory::stop::Stop;
 use std::alloc::Global;
 use std::env;
 use std::env::Args;

@@ -51,6 +51,16 @@ pub enum Fields {
     Field(Box<Value>, Box<Fields>),
 }
 
+// A value taken apart.
+#[derive(Drop)]
+pub enum Parts {
+    Number(u64),
+    Data(Name, Fields),
+    Box(RootId),
+    Reference(Place),
+    Hole,
+}
+
 impl Drop for Value {
     fn drop(self) {
         match self {
@@ -76,6 +86,16 @@ impl Drop for Fields {
 }
 
 impl Value {
+    pub fn parts(self) -> Parts {
+        match self {
+            Value::Number(k) => Parts::Number(k),
+            Value::Data(ctor, _, fields) => Parts::Data(ctor, Box::into_inner(fields)),
+            Value::Box(root) => Parts::Box(root),
+            Value::Reference(place) => Parts::Reference(place),
+            Value::Hole => Parts::Hole,
+        }
+    }
+
     // How many levels it has.
     pub fn levels(&self) -> usize {
         match self {
@@ -137,6 +157,14 @@ impl Value {
 }
 
 impl Fields {
+    // The first field and the rest.
+    pub fn split(self) -> Option<(Value, Fields)> {
+        match self {
+            Fields::NoFields => None,
+            Fields::Field(first, rest) => Some((Box::into_inner(first), Box::into_inner(rest))),
+        }
+    }
+
     pub fn levels(&self) -> usize {
         let mut most = 0usize;
         let mut above = 0usize;
