@@ -1,7 +1,8 @@
 // Runs a text of the language on trees: `model FILE [--heap WORDS] [--stack WORDS] [--turns N] [--out N] [--depth N]`.
 // Numbers to read come from standard input, and each number shown goes onto a line of standard output.
-use interpreter::run::Limits;
+use model_state::state::Limits;
 use interpreter::run::Outcome;
+use interpreter::run::large;
 use interpreter::run::run_text;
 use model_memory::stop::Stop;
 use std::alloc::Global;
@@ -35,7 +36,7 @@ fn set(limits: Limits, flag: &str, value: &str) -> Result<Limits, AnyError> {
 }
 
 fn request(mut args: Args<Global>) -> Result<Request, AnyError> {
-    let mut found = Request { file: None, limits: Limits::large() };
+    let mut found = Request { file: None, limits: large() };
     for _ in 0..u64::MAX {
         let Some(arg) = args.next() else {
             break;
