@@ -1,0 +1,6 @@
+// Any text of the language, run on trees: slow and plain, and looking at every step whether something is there.
+mod bodies;
+mod expressions;
+mod machine;
+pub mod run;
+mod task;
