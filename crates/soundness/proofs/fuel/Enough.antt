@@ -17,7 +17,6 @@ use Rattle.language.specs.Meaning.{bodies, tails, by-shape, execs, block, exec,
 use Rattle.language.specs.Meaning.{ref-v, hole, nil-v, cons-v, adds-root, moves, ok, Env, shape, roots-in, makes-box, newer, parts, Found, FoundArm}
 use Rattle.language.specs.Meaning.{find-alt, find-arm}
 use Rattle.language.specs.Says.{Enough-fuel}
-use Rattle.soundness.specs.Fuel.{Fuel-for-any}
 use Rattle.soundness.proofs.fuel.Kept.{≼-trans, write-at-keeps, taken-keeps, kill-keeps, ends-box-keeps, roots-in-keeps}
 use Rattle.soundness.proofs.fuel.Halting.{Settled-well, well-ok, well-stop, Halts, at-once, ok-halts, step, weaken, then-halts, need-halts}
 use Rattle.soundness.proofs.fuel.Halting.{choose-halts, Room, Less, less-room, lower-room, turn-halts, call-under, drop-under, room-by}
@@ -244,8 +243,5 @@ not-late (well-ok h) s e = grind arith
 not-late (well-stop h) s e = h (cc)
 
 -- of any program, accepted or not
-pub fuel-for-any : Fuel-for-any
-fuel-for-any m q ins = let x = run-halts m q ins in (x .with-fuel, λ w s l e. not-late (x .well) s (sym (x .settled w l) ∙ e))
-
 pub enough-fuel : Enough-fuel
-enough-fuel m q ins accepted = fuel-for-any m q ins
+enough-fuel m q ins = let x = run-halts m q ins in (x .with-fuel, λ w s l e. not-late (x .well) s (sym (x .settled w l) ∙ e))
