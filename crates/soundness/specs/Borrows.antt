@@ -66,7 +66,8 @@ abbrev pub Lent : List Kind → ℕ → Bool → Type 0
 Lent [] i al = ⊥
 Lent (y ∷ N) i al = Has-loan (loans-of y) i al ⊎ Lent N i al
 
--- EXCLUSIVITY, of an older x at level i and address a, and a newer y at address d, N up to y: if one of the addresses is above the other, then both are shared; or
+-- EXCLUSIVITY, of an older x at level i and address a, and a newer y at address d, N up to y: if one of the addresses is above
+-- the other, then both are shared; or
 -- x is exclusive and above, and its level is lent, alone if y is exclusive
 abbrev pub Pairwise : List Kind → ℕ → Kind → Addr → Kind → Addr → Type 0
 Pairwise N i x a y d = Comparable a d → ((exclusive x ≡ false) × (exclusive y ≡ false)) ⊎ ((exclusive x ≡ true) × Prefix a d × Lent N i (exclusive y))

@@ -94,7 +94,8 @@ abbrev pub given-own-name : Prog
 given-own-name = with-main (bind w-r (call w-f (cons-e a-d nil-e)) ∷ looks view w-r (shows-k ∷ []) ∷ [])
     (record { name = w-f; pars = record { name = w-a; ty = dat w-t } ∷ []; ret = ref (dat w-t); does = body nil-s (give (share w-a)) } ∷ [])
 
--- what a call gives holds the loans of its arguments: fn f(a: ref t): ref t { give a } let a = D(1); let r = f(&a); let b = a; view r { D(k) { put *k; } N { } }
+-- what a call gives holds the loans of its arguments:
+-- fn f(a: ref t): ref t { give a } let a = D(1); let r = f(&a); let b = a; view r { D(k) { put *k; } N { } }
 abbrev pub moved-behind-a-call : Prog
 moved-behind-a-call = with-main
     (bind w-a a-d ∷ bind w-r (call w-f (cons-e (share w-a) nil-e)) ∷ bind w-b (var w-a) ∷ looks view w-r (shows-k ∷ []) ∷ [])

@@ -20,7 +20,7 @@ pub fn nothing_left() -> u8
     0
 }
 
-// With turns counted, some fuel is enough, and so is any greater one: for every program, accepted or not.
+// With turns counted, some fuel is enough, and so is any greater one; for every program, accepted or not.
 pub fn enough_fuel() -> u8
     ensures { λ _. ⌜ «Enough-fuel» ⌝ }
 {

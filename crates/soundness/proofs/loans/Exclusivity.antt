@@ -44,7 +44,8 @@ permitted-at (t ∷ N) h i j x y a d lt ex ey ax ay co = go (level-case t N j y 
         (h .0 d (ap (addr-of (length N)) (b .1) ∙ subst (λ z. addr-of z y ≡ some d) (b .0) ay) i x a (under (b .0)) ax co)
     go (inr b) f = more (f b)
 
--- A reborrow: a new entry w at or below z, exclusive only if z is. Either z is shared, or w has a loan of it and no newer entry that is comparable with w is in conflict
+-- a reborrow: a new entry w at or below z, exclusive only if z is. Either z is shared, or w has a loan of it,
+-- and no newer entry that is comparable with w is in conflict
 abbrev pub Unobstructed : List Kind → ℕ → Bool → Addr → Type 0
 Unobstructed N lz wx aw =
     (j : ℕ) (v : Kind) (d : Addr) → lz < j → at-level N j ≡ some v → addr-of j v ≡ some d → Comparable d aw → (exclusive v ≡ true) ⊎ (wx ≡ true) → ⊥
