@@ -88,13 +88,3 @@ module _ (K : Kit) (F : Fits K) where
   -- fewer that are live: a box begins to be dropped, or ends
   pub mem-fewer : (bound : ℕ) (L : List Pl) (rs rs2 : List Root) (w : ℕ → ℕ) → length rs2 ≡ length rs → ((i : ℕ) (x : Root) → Live rs2 i x → Live rs i x) → Mem K bound L rs w → Mem K bound L rs2 w
   mem-fewer bound L rs rs2 w e f m = record { long = m .long ∙ sym e; laid = λ r x y h. m .laid r x y (f r x h); apart = λ r i j o1 o2. m .apart r i j (owns-fewer L rs rs2 r j f o1) (owns-fewer L rs rs2 i j f o2); low = λ r j o. m .low r j (owns-fewer L rs rs2 r j f o) }
-
-  -- the words of a box that's being dropped are handed over: they may become anything
-  pub mem-handed : (bound : ℕ) (L : List Pl) (rs : List Root) (w w′ : ℕ → ℕ) (r : ℕ) (x : Root) (y : Pl) → Mem K bound L rs w → Live rs r x → at-place L r ≡ some y → ((j : ℕ) → (y .flag ≤ j → j < y .at + K .size (y .ty) → ⊥) → w′ j ≡ w j) → Mem K bound L (quiet rs r) w′
-  mem-handed bound L rs w w′ r x y m h e f =
-      mem-words K F bound L (quiet rs r) w w′ (mem-fewer bound L rs (quiet rs r) w (quiet-length rs r) (λ i z g. quiet-live rs r i z g .0) m)
-      (λ i j o. f j (λ g1 g2. quiet-live rs r i (o .root) (o .lives) .1 (m .apart r i j (record { root = x; pl = y; lives = h; is = e; from = g1; upto = g2 }) (owns-fewer L rs (quiet rs r) i j (λ k z g. quiet-live rs r k z g .0) o))))
-
-  -- and nobody else owns a word there: the place can be a last function's, as a root of its own
-  pub handed-clear : (bound : ℕ) (L : List Pl) (rs : List Root) (w : ℕ → ℕ) (r : ℕ) (x : Root) (y : Pl) → Mem K bound L rs w → Live rs r x → at-place L r ≡ some y → (i j : ℕ) → Owns K (quiet rs r) L i j → y .flag ≤ j → j < y .at + K .size (y .ty) → ⊥
-  handed-clear bound L rs w r x y m h e i j o g1 g2 = quiet-live rs r i (o .root) (o .lives) .1 (m .apart r i j (record { root = x; pl = y; lives = h; is = e; from = g1; upto = g2 }) (owns-fewer L rs (quiet rs r) i j (λ k z g. quiet-live rs r k z g .0) o))

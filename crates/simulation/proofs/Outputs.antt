@@ -10,6 +10,7 @@ use lib.ListN.{length}
 use lib.Dec.{eqb, ltb, leb}
 use Rattle.language.specs.Base.{Lexeme, choose, from-option}
 use Rattle.language.specs.Syntax.{Ty, int, dat, box, ref, mut}
+pub use Rattle.simulation.specs.Outputs.{Capped, c-halts, c-goes, Full, f-here, f-goes, Over}
 use Rattle.simulation.proofs.Machine.{Kit, Taken, Instr, NUM, COPY, MOVE, OP, BOX, ADDR, LOAD, GET, TURN, ASSIGN, STORE, PADDR, PART, JTAG, OPEN, PUT, JZ, JMP, END, CALL, RESULT, RETURN, RESUME, MAIN, HALT, STUCK, Mode, running, dropping, tagged, fields, whole, Mach, Next, go, halt, Outcome, entered, enters, does, drop-step, tagged-step, fields-step, whole-step, run-step, mode-step, step, Runs, halts, goes}
 use Rattle.simulation.proofs.WordOps.{leb-says, leb-denies}
 
@@ -17,17 +18,22 @@ use Rattle.simulation.proofs.WordOps.{leb-says, leb-denies}
 abbrev pub Adds : Mach → Next → Type 0
 Adds M (go N) = (xs : List ℕ) × (N .outs ≡ M .outs ++ xs)
 Adds M (halt x os) = os ≡ M .outs
+
 nothing : (xs : List ℕ) → xs ≡ xs ++ []
 nothing [] = refl
 nothing (x ∷ xs) = ap (λ z. x ∷ z) (nothing xs)
+
 either : (M : Mach) (t : Bool) (x y : Next) → Adds M x → Adds M y → Adds M (choose t x y)
 either M true x y a e = a
 either M false x y a e = e
+
 maybe : (M : Mach) (o : Option Taken) (x : Next) (f : Taken → Next) → Adds M x → ((t : Taken) → Adds M (f t)) → Adds M (from-option o x f)
 maybe M none x f a e = a
 maybe M (some t) x f a e = e t
+
 enters-adds : (K : Kit) (code : List Instr) (M : Mach) (back1 res e1 e2 e3 : ℕ) (f : Lexeme) (r : ℕ) (ts : List Ty) (a : ℕ) → Adds M (enters K code M back1 res e1 e2 e3 f r ts a)
 enters-adds K code M back1 res e1 e2 e3 f r ts a = either M (ltb (M .turns) (K .lent .max-turns)) _ _ (either M (leb (M .sp + K .frame f) (K .lent .stack)) _ _ ([], nothing (M .outs)) refl) refl
+
 does-adds : (K : Kit) (code : List Instr) (i : Instr) (is : List Instr) (M : Mach) → Adds M (does K code i is M)
 does-adds K code (NUM h x) is M = ([], nothing (M .outs))
 does-adds K code (COPY h f) is M = ([], nothing (M .outs))
@@ -55,44 +61,37 @@ does-adds K code (RESUME d) is M = ([], nothing (M .outs))
 does-adds K code (MAIN f) is M = enters-adds K code M (length is) (K .lent .heap + M .sp + 2) 0 0 0 f 1 [] 0
 does-adds K code HALT is M = refl
 does-adds K code STUCK is M = refl
+
 last-adds : (K : Kit) (M : Mach) (o : Option Lexeme) (x : Next) (f : Lexeme → Next) → Adds M x → ((l : Lexeme) → Adds M (f l)) → Adds M (from-option o x f)
 last-adds K M none x f a e = a
 last-adds K M (some l) x f a e = e l
+
 drop-adds : (K : Kit) (code : List Instr) (a : ℕ) (t : Ty) (pe : ℕ) (M : Mach) → Adds M (drop-step K code a t pe M)
 drop-adds K code a int pe M = ([], nothing (M .outs))
 drop-adds K code a (dat d) pe M = last-adds K M (K .last d) _ _ ([], nothing (M .outs)) (λ f. enters-adds K code M (K .resume d) (K .lent .heap + M .sp + 2) a pe (length (M .ctl)) f 1 (mut (dat d) ∷ []) (K .lent .heap + M .sp + 4))
 drop-adds K code a (box t) pe M = either M (leb (M .sp + 8) (K .lent .stack)) _ _ ([], nothing (M .outs)) refl
 drop-adds K code a (ref t) pe M = ([], nothing (M .outs))
 drop-adds K code a (mut t) pe M = ([], nothing (M .outs))
+
 run-adds : (K : Kit) (code is : List Instr) (M : Mach) → Adds M (run-step K code is M)
 run-adds K code [] M = refl
 run-adds K code (i ∷ is) M = does-adds K code i is M
+
 mode-adds : (K : Kit) (code : List Instr) (o : Mode) (M : Mach) → Adds M (mode-step K code o M)
 mode-adds K code running M = run-adds K code (M .ctl) M
 mode-adds K code (dropping a t pe) M = drop-adds K code a t pe M
 mode-adds K code (tagged a d pe) M = ([], nothing (M .outs))
 mode-adds K code (fields a e) M = ([], nothing (M .outs))
 mode-adds K code whole M = either M (eqb (M .sp) (M .full)) _ _ ([], nothing (M .outs)) ([], nothing (M .outs))
+
 pub step-adds : (K : Kit) (code : List Instr) (M : Mach) → Adds M (step K code M)
 unfolding step
 step-adds K code M = mode-adds K code (M .mode) M
+
 pub runs-adds : {K : Kit} {code : List Instr} {M : Mach} {x : Outcome} {os : List ℕ} → Runs K code M x os → (xs : List ℕ) × (os ≡ M .outs ++ xs)
 runs-adds {K} {code} (halts {M = M} e) = ([], subst (λ n1. Adds M n1) e (step-adds K code M) ∙ nothing (M .outs))
 runs-adds {K} {code} (goes {M = M} e r) = let a = subst (λ n1. Adds M n1) e (step-adds K code M) in let c1 = runs-adds r in (a .0 ++ c1 .0, c1 .1 ∙ (ap (λ z. z ++ c1 .0) (a .1) ∙ append-assoc (M .outs) (a .0) (c1 .0)))
 
--- room for cap words of output: the run as it is; or it's full, with what was shown up to the first that has no room
-pub data Capped (K : Kit) (code : List Instr) (cap : ℕ) : Mach → Outcome → List ℕ → Type 0 where
-  c-halts : {M : Mach} {x : Outcome} {os : List ℕ} → step K code M ≡ halt x os → Capped K code cap M x os
-  c-goes : {M N : Mach} {x : Outcome} {os : List ℕ} → step K code M ≡ go N → length (N .outs) ≤ cap → Capped K code cap N x os → Capped K code cap M x os
-pub data Full (K : Kit) (code : List Instr) (cap : ℕ) : Mach → List ℕ → Type 0 where
-  f-here : {M N : Mach} → step K code M ≡ go N → cap < length (N .outs) → Full K code cap M (N .outs)
-  f-goes : {M N : Mach} {os : List ℕ} → step K code M ≡ go N → length (N .outs) ≤ cap → Full K code cap N os → Full K code cap M os
-pub record Over (K : Kit) (code : List Instr) (cap : ℕ) (M : Mach) (os : List ℕ) : Type 0 where
-  pub shown : List ℕ
-  pub rest : List ℕ
-  pub full : Full K code cap M shown
-  pub more : cap < length shown
-  pub front : os ≡ shown ++ rest
 pub capped : {K : Kit} {code : List Instr} (cap : ℕ) {M : Mach} {x : Outcome} {os : List ℕ} → Runs K code M x os → Capped K code cap M x os ⊎ Over K code cap M os
 capped cap (halts e) = inl (c-halts e)
 capped {K} {code} cap (goes {M = M} {N = N} {x = x} {os = os} e r) = by (leb (length (N .outs)) cap) refl (capped cap r)
@@ -100,6 +99,10 @@ capped {K} {code} cap (goes {M = M} {N = N} {x = x} {os = os} e r) = by (leb (le
     on : length (N .outs) ≤ cap → Capped K code cap N x os ⊎ Over K code cap N os → Capped K code cap M x os ⊎ Over K code cap M os
     on h (inl c1) = inl (c-goes e h c1)
     on h (inr o) = inr (record { shown = o .shown; rest = o .rest; full = f-goes e h (o .full); more = o .more; front = o .front })
+
     by : (t : Bool) → leb (length (N .outs)) cap ≡ t → Capped K code cap N x os ⊎ Over K code cap N os → Capped K code cap M x os ⊎ Over K code cap M os
     by true q1 z = on (leb-says (length (N .outs)) cap q1) z
     by false q1 z = let a = runs-adds r in let h = leb-denies (length (N .outs)) cap q1 in inr (record { shown = N .outs; rest = a .0; full = f-here e h; more = h; front = a .1 })
+
+pub output-limited : Rattle.simulation.specs.Outputs.Output-limited
+output-limited K code cap M x os r = capped cap r

@@ -1,4 +1,4 @@
--- References into data: which words hold an address that is right now; what writing, adding and ending do to them.
+-- References into data: an address that is right now; what lies there, and what writing there does.
 use mathlib.Core.Path.{_≡_, refl, sym, ap, subst, _∙_}
 use mathlib.Core.Bool.{Bool, true, false}
 use mathlib.Core.List.{List, [], _∷_, _++_}
@@ -25,32 +25,9 @@ pub record Spot (K : Kit) (L : List Pl) (rs : List Root) (l : Loc) (a : ℕ) (u 
   pub goes : Goes K (l .path) (root .val) (pl .ty) off u val
   pub at : a ≡ pl .at + off
 
--- H l a u: the word at a holds a reference to l, of a type that refers to u, that is still of use
-abbrev pub Holders : Type 1
-Holders = Loc → ℕ → Ty → Type 0
-
-abbrev pub Spots : Kit → List Pl → List Root → (ℕ → ℕ) → Holders → Type 0
-Spots K L rs w H = (l : Loc) (a : ℕ) (u : Ty) → H l a u → Spot K L rs l (w a) u
-
--- nobody of use points strictly inside the place q of root r; nor to the root at all
-abbrev pub Clear : Holders → ℕ → List ℕ → Type 0
-Clear H r q = (l : Loc) (a : ℕ) (u : Ty) → H l a u → l .root ≡ r → Inside q (l .path) → ⊥
-
-abbrev pub Unseen : Holders → ℕ → Type 0
-Unseen H r = (l : Loc) (a : ℕ) (u : Ty) → H l a u → l .root ≡ r → ⊥
-
-abbrev pub Still : Holders → (ℕ → ℕ) → (ℕ → ℕ) → Type 0
-Still H w w′ = (l : Loc) (a : ℕ) (u : Ty) → H l a u → w′ a ≡ w a
-
 module _ (K : Kit) (F : Fits K) where
   pub spot-word : (L : List Pl) (rs : List Root) (l : Loc) (a d : ℕ) (u : Ty) → d ≡ a → Spot K L rs l a u → Spot K L rs l d u
   spot-word L rs l a d u e h = record { root = h .root; pl = h .pl; off = h .off; val = h .val; lives = h .lives; is = h .is; goes = h .goes; at = e ∙ h .at }
-
-  pub spots-words : (L : List Pl) (rs : List Root) (w w′ : ℕ → ℕ) (H : Holders) → Spots K L rs w H → Still H w w′ → Spots K L rs w′ H
-  spots-words L rs w w′ H s f l a u h = spot-word L rs l (w a) (w′ a) u (f l a u h) (s l a u h)
-
-  pub spots-less : (L : List Pl) (rs : List Root) (w : ℕ → ℕ) (H H2 : Holders) → Spots K L rs w H → ((l : Loc) (a : ℕ) (u : Ty) → H2 l a u → H l a u) → Spots K L rs w H2
-  spots-less L rs w H H2 s f l a u h = s l a u (f l a u h)
 
   -- a root's value is written at q
   pub spot-put : (L : List Pl) (rs : List Root) (l : Loc) (a : ℕ) (u : Ty) (r : ℕ) (x : Root) (q : List ℕ) (new : Value) (k : ℕ) → Live rs r x → (l .root ≡ r → Inside q (l .path) → ⊥) → Spot K L rs l a u → Spot K L (set-at rs r (record { live = true; val = put-path q new (x .val); words = k })) l a u
@@ -63,25 +40,6 @@ module _ (K : Kit) (F : Fits K) where
           let g = goes-put K q (l .path) (x .val) new (h .pl .ty) (h .off) u (h .val) (nb (sym e)) (subst (λ (y : Root). Goes K (l .path) (y .val) (h .pl .ty) (h .off) u (h .val)) (sym e1) (h .goes)) in
           record { root = v1; pl = h .pl; off = h .off; val = g .0; lives = record { is = subst (λ (i : ℕ). at-place (set-at rs r v1) i ≡ some v1) e (at-put-same rs r x v1 (lv .is)); lives = refl }; is = h .is; goes = g .1; at = h .at }
       by (inr e) = record { root = h .root; pl = h .pl; off = h .off; val = h .val; lives = record { is = at-put-other rs r (l .root) _ e ∙ h .lives .is; lives = h .lives .lives }; is = h .is; goes = h .goes; at = h .at }
-
-  pub spots-write : (L : List Pl) (rs : List Root) (w w′ : ℕ → ℕ) (H : Holders) (r : ℕ) (x : Root) (q : List ℕ) (new : Value) (k : ℕ) → Spots K L rs w H → Live rs r x → Clear H r q → Still H w w′ → Spots K L (set-at rs r (record { live = true; val = put-path q new (x .val); words = k })) w′ H
-  spots-write L rs w w′ H r x q new k s lv cl st l a u h = spot-word L _ l (w a) (w′ a) u (st l a u h) (spot-put L rs l (w a) u r x q new k lv (cl l a u h) (s l a u h))
-
-  -- a root ends
-  pub spots-end : (L : List Pl) (rs : List Root) (w : ℕ → ℕ) (H : Holders) (r : ℕ) (v : Root) → Spots K L rs w H → Unseen H r → Spots K L (set-at rs r v) w H
-  spots-end L rs w H r v s un l a u hh = let h = s l a u hh in record { root = h .root; pl = h .pl; off = h .off; val = h .val; lives = record { is = at-put-other rs r (l .root) v (λ e. un l a u hh (sym e)) ∙ h .lives .is; lives = h .lives .lives }; is = h .is; goes = h .goes; at = h .at }
-
-  -- a root comes
-  pub spots-add : (L : List Pl) (rs : List Root) (w : ℕ → ℕ) (H : Holders) (y : Pl) (v : Root) → Spots K L rs w H → Spots K (L ++ (y ∷ [])) (rs ++ (v ∷ [])) w H
-  spots-add L rs w H y v s l a u hh = let h = s l a u hh in record { root = h .root; pl = h .pl; off = h .off; val = h .val; lives = record { is = at-old rs (v ∷ []) (l .root) (h .root) (h .lives .is); lives = h .lives .lives }; is = at-old L (y ∷ []) (l .root) (h .pl) (h .is); goes = h .goes; at = h .at }
-
-  -- one that's of use comes: it's right
-  pub spots-new : (L : List Pl) (rs : List Root) (w : ℕ → ℕ) (H H2 : Holders) → Spots K L rs w H → ((l : Loc) (a : ℕ) (u : Ty) → H2 l a u → H l a u ⊎ Spot K L rs l (w a) u) → Spots K L rs w H2
-  spots-new L rs w H H2 s f l a u h = by (f l a u h)
-    where
-      by : H l a u ⊎ Spot K L rs l (w a) u → Spot K L rs l (w a) u
-      by (inl x) = s l a u x
-      by (inr x) = x
 
   -- a root as a whole is a spot
   pub spot-root : (L : List Pl) (rs : List Root) (r : ℕ) (x : Root) (y : Pl) → Live rs r x → at-place L r ≡ some y → Spot K L rs (record { root = r; path = [] }) (y .at) (y .ty)
@@ -144,26 +102,6 @@ module _ (K : Kit) (F : Fits K) where
       let d : Down K i (h .val) u (λ v1 t1 o1. Unit {0}) = record { word = k; vs = vs; info = m; part = x; ty = t; is = read-spot s L l a u (con-v k vs) h er; known = ek; nth = en; field = ef; rest = tt } in
       let ea = h .at in
       record { root = h .root; pl = h .pl; off = h .off + (1 + field-off K (m .fields) i); val = x; lives = h .lives; is = h .is; goes = goes-more K (l .path) i (h .root .val) (h .pl .ty) (h .off) u (h .val) (λ v1 t1 o1. Unit {0}) (h .goes) d; at = omega arith }
-
-  -- of data that's laid, each part has its type and lies there
-  pub record Field-of (L : List Pl) (w : ℕ → ℕ) (a : ℕ) (m : Info) (i : ℕ) (x : Value) : Type 0 where
-    pub ty : Ty
-    pub is : at-place (m .fields) i ≡ some ty
-    pub lay : Lay K L w ((a + 1) + field-off K (m .fields) i) ty x
-    pub within : (1 + field-off K (m .fields) i) + K .size ty ≤ K .size (dat (m .home))
-
-  field-ty : (L : List Pl) (w : ℕ → ℕ) (a : ℕ) (ts : List Ty) (vs : Values) (i : ℕ) (x : Value) → Lays K L w a ts vs → nth-v vs i ≡ some x → (t : Ty) × (at-place ts i ≡ some t)
-  field-ty L w a ts nil-v i x y e = absurd (no-some e)
-  field-ty L w a ts (cons-v v vs) zero x y e = (y .0, ap (λ (z : List Ty). at-place z 0) (y .1 .1 .0))
-  field-ty L w a ts (cons-v v vs) (suc i) x y e = let r = field-ty L w (a + K .size (y .0)) (y .1 .0) vs i x (y .1 .1 .2) e in (r .0, ap (λ (z : List Ty). at-place z (suc i)) (y .1 .1 .0) ∙ r .1)
-
-  pub field-of : (L : List Pl) (w : ℕ → ℕ) (a : ℕ) (t : Ty) (k : Lexeme) (vs : Values) (m : Info) (i : ℕ) (x : Value) → K .info k ≡ some m → Lay K L w a t (con-v k vs) → nth-v vs i ≡ some x → Field-of L w a m i x
-  field-of L w a t k vs m i x ek y en =
-      let dl = data-laid K L w a t (con-v k vs) k vs m refl ek y in
-      let ft = field-ty L w (a + 1) (m .fields) vs i x (dl .lays) en in
-      let pa = nth-part K F L w (a + 1) (m .fields) vs i x (ft .0) (dl .lays) en (ft .1) in
-      let wi = pa .within in let fi = F .inside k m ek in
-      record { ty = ft .0; is = ft .1; lay = pa .lay; within = omega arith }
 
 -- what is read at a spot among fewer roots is read there among all
 pub spot-reads : (K : Kit) (F : Fits K) (L : List Pl) (s : State) (ws : List Root) (l : Loc) (a : ℕ) (u : Ty) (v : Value) → ((i : ℕ) (x : Root) → Live ws i x → Live (s .roots) i x) → Spot K L ws l a u → read-at s l ≡ some v → read-at (with-roots s ws) l ≡ some v

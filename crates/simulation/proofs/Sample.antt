@@ -21,37 +21,58 @@ use Rattle.simulation.proofs.Memory.{no-some, some-is}
 
 abbrev gives-7 : Fn
 gives-7 = record { name = w-main; pars = []; ret = int; does = body nil-s (give (num 7)) }
+
 abbrev small : Prog
 small = record { datas = []; funs = gives-7 ∷ [] }
+
 abbrev sigs : Lexeme → Option Entry
 sigs f = some (record { pars = []; ret = int })
+
 abbrev kit : ℕ → ℕ → Kit
-kit stack turns = record { info = λ k. none; size = λ t. 1; ent = λ e. none; first-of = λ d t. 0; last = λ d. none; entry = λ f. 5; frame = λ f. 88; resume = λ d. 0;
-    lent = record { heap = 0; stack = stack; max-turns = turns }; take = λ ps w z. none; give = λ ps a z. ps; link = λ ps a z w. w }
+kit stack turns = record {
+  info = λ k. none;
+  size = λ t. 1;
+  ent = λ e. none;
+  first-of = λ d t. 0;
+  last = λ d. none;
+  entry = λ f. 5;
+  frame = λ f. 88;
+  resume = λ d. 0;
+  lent = record { heap = 0; stack = stack; max-turns = turns };
+  take = λ ps w z. none;
+  give = λ ps a z. ps;
+  link = λ ps a z w. w;
+}
+
 abbrev code7 : ℕ → ℕ → List Instr
 code7 stack turns = code-fn (kit stack turns) sigs gives-7 (MAIN w-main ∷ HALT ∷ [])
+
 module _ (stack turns : ℕ) (ps : Pools) (w : ℕ → ℕ) where
   no-cons : {A : Type 0} (xs ys : List A) (y : A) → xs ++ (y ∷ ys) ≡ [] → ⊥
   no-cons [] ys y e = let z : _≡_ {A = ℕ} 0 1 = cc in omega arith
   no-cons (x ∷ xs) ys y e = let z : _≡_ {A = ℕ} 0 1 = cc in omega arith
+
   nothing-used : {ps2 : Pools} {w2 : ℕ → ℕ} {cs : List Class} {us : List Place} → In-use (kit stack turns) ps w ps2 w2 cs us → (cs ≡ []) × (us ≡ [])
   nothing-used at-first = (refl, refl)
   nothing-used (words-same h f) = nothing-used h
   nothing-used (one-taken t x h e) = absurd (no-some e)
   nothing-used (one-given xs ys a t h) = absurd (no-cons xs ys _ (nothing-used h .1))
+
   only-main : (f : Lexeme) (fn : Fn) → fn-named (gives-7 ∷ []) f ≡ some fn → gives-7 ≡ fn
   only-main f fn e = by (same w-main f) e
     where
       by : (t : Bool) → choose t (some gives-7) none ≡ some fn → gives-7 ≡ fn
       by true d = some-is d
       by false d = absurd (no-some d)
+
   pub prepared : Prepared (kit stack turns) ps w (code7 stack turns) sigs small
   prepared = record {
-      sizes = record { some-word = λ t. omega arith; inside = λ k i e. absurd (no-some e); one-int = refl; one-box = λ t. refl; one-ref = λ t. refl; one-mut = λ t. refl };
-      pools = record { refused = λ ps2 w2 cs us t h e. ap (λ (c : List Class). leb (peaks (count-in c 1)) 0) (nothing-used h .0); fits = λ ps2 w2 cs us t x h e. absurd (no-some e); within = λ ps2 w2 cs us t x h e. absurd (no-some e); apart = λ ps2 w2 cs us t x h e. absurd (no-some e); link-at = λ ps2 w2 a t j n1. refl };
-      words = λ k vs i e. absurd (no-some e);
-      tables = record { run = λ k m e. absurd (no-some e); first = λ k m e. absurd (no-some e); own = λ k m e. absurd (no-some e); tags = λ c k i m e. absurd (no-some e); plain = λ k m h e. absurd (no-some e); last = λ k m h e. absurd (no-some e) };
-      coded = λ f fn e. subst (λ (x : Fn). Coded-fn (kit stack turns) sigs (code7 stack turns) small f x) (only-main f fn e)
+    sizes = record { some-word = λ t. omega arith; inside = λ k i e. absurd (no-some e); one-int = refl; one-box = λ t. refl; one-ref = λ t. refl; one-mut = λ t. refl };
+    pools = record { refused = λ ps2 w2 cs us t h e. ap (λ (c : List Class). leb (peaks (count-in c 1)) 0) (nothing-used h .0); fits = λ ps2 w2 cs us t x h e. absurd (no-some e); within = λ ps2 w2 cs us t x h e. absurd (no-some e); apart = λ ps2 w2 cs us t x h e. absurd (no-some e); link-at = λ ps2 w2 a t j n1. refl };
+    words = λ k vs i e. absurd (no-some e);
+    tables = record { run = λ k m e. absurd (no-some e); first = λ k m e. absurd (no-some e); own = λ k m e. absurd (no-some e); tags = λ c k i m e. absurd (no-some e); plain = λ k m h e. absurd (no-some e); last = λ k m h e. absurd (no-some e) };
+    coded = λ f fn e. subst (λ (x : Fn). Coded-fn (kit stack turns) sigs (code7 stack turns) small f x) (only-main f fn e)
         (record { rest = MAIN w-main ∷ HALT ∷ []; at = refl; suf = same1; words = refl; fit = (omega arith, (omega arith, omega arith, refl), omega arith); sig = refl });
-      main = λ fn e. subst (λ (x : Fn). (x .pars ≡ []) × (x .ret ≡ int)) (only-main w-main fn e) (refl, refl);
-      halt = later (later (later (later same1))) }
+    main = λ fn e. subst (λ (x : Fn). (x .pars ≡ []) × (x .ret ≡ int)) (only-main w-main fn e) (refl, refl);
+    halt = later (later (later (later same1)));
+  }

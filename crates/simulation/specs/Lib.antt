@@ -6,3 +6,4 @@ pub mod Pooling
 pub mod Borrows
 pub mod Fitting
 pub mod Says
+pub mod Outputs
