@@ -1,4 +1,4 @@
--- What is asked can be met: a program that gives 7, with no boxes, is prepared; and nothing is said of references where there are none.
+-- What is asked can be met: a program that gives 7 is prepared and steady, and the machine runs to 7.
 use mathlib.Core.Path.{_≡_, refl, sym, ap, subst, _∙_}
 use mathlib.Core.Bool.{Bool, true, false, not}
 use mathlib.Core.List.{List, [], _∷_, _++_}
@@ -10,14 +10,19 @@ use lib.Dec.{leb, T}
 use Rattle.language.specs.Base.{Lexeme, choose, same}
 use Rattle.language.specs.Syntax.{Ty, int, num, nil-s, body, give, Fn, Prog}
 use Rattle.language.specs.Checks.{fn-named, w-main}
-use Rattle.language.specs.Meaning.{Class, Limits, peaks, count-in}
-use Rattle.simulation.specs.Machine.{Kit, Info, Place, Pools, Taken, Instr, MAIN, HALT}
+use Rattle.language.specs.Meaning.{Class, Limits, peaks, count-in, Value, int-v, State, Res, ok, Env, newer, blank, then, need, turn, goes-under, eval, run}
+use Rattle.simulation.specs.Borrows.{add-loc, Steady-calls, Steady-ends}
+use Rattle.simulation.specs.Machine.{Kit, Info, Place, Pools, Taken, Instr, MAIN, HALT, ended, Runs}
 use Rattle.simulation.specs.Lowering.{Entry, code-fn, Suf, same1, later}
 use Rattle.simulation.specs.Sizes.{Fits}
 use Rattle.simulation.specs.Pooling.{In-use, at-first, words-same, one-taken, one-given, Pools-right}
 use Rattle.simulation.specs.Fitting.{Tables, Coded, Coded-fn}
-use Rattle.simulation.specs.Says.{Main-fn, Prepared}
+use Rattle.simulation.specs.Says.{start, Halts, Main-fn, Prepared, Steady-run}
+use Rattle.simulation.proofs.Top.{run-words}
 use Rattle.simulation.proofs.Memory.{no-some, some-is}
+
+abbrev no-pools : Pools
+no-pools = record { heads = []; top = 0 }
 
 abbrev gives-7 : Fn
 gives-7 = record { name = w-main; pars = []; ret = int; does = body nil-s (give (num 7)) }
@@ -76,3 +81,17 @@ module _ (stack turns : ℕ) (ps : Pools) (w : ℕ → ℕ) where
     main = λ fn e. subst (λ (x : Fn). (x .pars ≡ []) × (x .ret ≡ int)) (only-main w-main fn e) (refl, refl);
     halt = later (later (later (later same1)));
   }
+
+pub steady : (stack turns : ℕ) (ins : List ℕ) → Steady-run (kit stack turns) small 4 ins
+unfolding eval
+steady stack turns ins fn e = subst (λ (x : Fn). Steady-calls (kit stack turns .lent) small 4 [] [] [] x [] (blank ins)) (only-main stack turns no-pools (λ j. 0) w-main fn e)
+    (λ g eg. (tt, λ i z ei. (tt, λ v y ev. (let e1 : [] ≡ g = some-is eg in let e2 : g ≡ i = same-ok ei in subst (λ (k : Env). Steady-ends (kit stack turns .lent) small 2 [] [] (add-loc v []) (newer k []) y) (e1 ∙ e2) tt))))
+  where
+    same-ok : {a c : Env} {s t : State} → _≡_ {A = Res Env} (ok a s) (ok c t) → a ≡ c
+    same-ok e = cc
+
+-- the machine runs to its end: 7, and nothing was shown
+pub seven : (ps : Pools) (w : ℕ → ℕ) → Runs (kit 88 1) (code7 88 1) (start (kit 88 1) ps w []) (ended 7) []
+unfolding eval then need turn goes-under
+seven ps w = let r : Halts (kit 88 1) (code7 88 1) (start (kit 88 1) ps w []) (run 4 (kit 88 1 .lent) small []) = run-words (kit 88 1) (code7 88 1) sigs small 4 [] ps w (prepared 88 1 ps w) (steady 88 1 []) in
+    let e : int-v 7 ≡ int-v (r .0) = r .1 .0 in let q1 : r .0 ≡ 7 = cc in subst (λ (k : ℕ). Runs (kit 88 1) (code7 88 1) (start (kit 88 1) ps w []) (ended k) []) q1 (r .1 .1)
