@@ -1,0 +1,5 @@
+use Rattle.simulation.proofs.machine_right.Needs as need
+use Rattle.simulation.proofs.Top.{run-words}
+
+pub returns : need.returns
+returns c = run-words
