@@ -14,7 +14,13 @@ use std::mem;
 
 // Large limits.
 pub fn large() -> Limits {
-    Limits { heap: 1 << 40, stack: 1 << 40, turns: 1 << 60, out: 1 << 40, depth: 10_000_000 }
+    Limits {
+        heap: 1 << 40,
+        stack: 1 << 40,
+        turns: 1 << 60,
+        out: 1 << 40,
+        depth: 10_000_000,
+    }
 }
 
 // How much a run used: the peaks of boxes by size, the most words under way, turns.
@@ -49,13 +55,26 @@ fn run_main(machine: &mut Machine) -> Result<u64, Stop> {
 }
 
 fn usage_of(state: &State) -> Used {
-    Used { heap: state.pools.peaks(), stack: state.most_under, turns: state.turns }
+    Used {
+        heap: state.pools.peaks(),
+        stack: state.most_under,
+        turns: state.turns,
+    }
 }
 
-fn run_program(heap: Global, program: &Program, limits: Limits, inputs: Vec<u64>) -> Result<Outcome, Stop> {
+fn run_program(
+    heap: Global,
+    program: &Program,
+    limits: Limits,
+    inputs: Vec<u64>,
+) -> Result<Outcome, Stop> {
     let table = Table::new(heap, program)?;
     let state = State::new(heap, table, limits, inputs);
-    let mut machine = Machine { program, tasks: Vec::new(heap), state };
+    let mut machine = Machine {
+        program,
+        tasks: Vec::new(heap),
+        state,
+    };
     let end = run_main(&mut machine);
     let used = usage_of(&machine.state);
     let mut shown = Vec::new(heap);
@@ -64,8 +83,16 @@ fn run_program(heap: Global, program: &Program, limits: Limits, inputs: Vec<u64>
 }
 
 fn nothing(heap: Global, stop: Stop) -> Outcome {
-    let used = Used { heap: 0, stack: 0, turns: 0 };
-    Outcome { end: Err(stop), shown: Vec::new(heap), used }
+    let used = Used {
+        heap: 0,
+        stack: 0,
+        turns: 0,
+    };
+    Outcome {
+        end: Err(stop),
+        shown: Vec::new(heap),
+        used,
+    }
 }
 
 // Reads the text and runs it, with the numbers to read.
