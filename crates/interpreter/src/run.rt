@@ -4,12 +4,15 @@ use model_memory::stop::Stop;
 use model_memory::stop::StopFromAlloc;
 use model_memory::stop::StopFromFault;
 use model_memory::stop::StopFromRefused;
+use model_memory::value::Parts;
+use model_memory::value::Value;
 use model_state::state::Limits;
 use model_state::state::State;
 use model_state::table::Table;
 use model_text::parse::read;
 use model_text::tree::Program;
 use std::alloc::Global;
+use std::fmt;
 use std::mem;
 
 // Large limits.
@@ -31,16 +34,30 @@ pub struct Used {
     pub turns: u64,
 }
 
+// What main gave: a number, or what is none, as in a text that isn't accepted.
+#[derive(Clone, Copy, PartialEq, Eq)]
+pub enum Given {
+    Number(u64),
+    Other,
+}
+
 // How a run ended, what it showed, and what it used.
 #[derive(Drop)]
 pub struct Outcome {
-    pub end: Result<u64, Stop>,
+    pub end: Result<Given, Stop>,
     pub shown: Vec<u64>,
     pub used: Used,
 }
 
+fn what_was_given(value: Value) -> Given {
+    match value.parts() {
+        Parts::Number(k) => Given::Number(k),
+        Parts::Data(_, _) | Parts::Box(_) | Parts::Reference(_) | Parts::Hole => Given::Other,
+    }
+}
+
 // Calls main and does what is to be done, until nothing is.
-fn run_main(machine: &mut Machine) -> Result<u64, Stop> {
+fn run_main(machine: &mut Machine) -> Result<Given, Stop> {
     let Some(main) = machine.program.main else {
         return Err(Stop::Wrong);
     };
@@ -48,7 +65,7 @@ fn run_main(machine: &mut Machine) -> Result<u64, Stop> {
     machine.call(main, none)?;
     for _ in 0..u64::MAX {
         if !machine.step()? {
-            return machine.state.pop_number();
+            return Ok(what_was_given(machine.state.pop()?));
         }
     }
     Err(Stop::TooDeep)
@@ -103,5 +120,14 @@ pub fn run_text(heap: Global, text: &[u8], limits: Limits, inputs: Vec<u64>) -> 
             Err(stop) => nothing(heap, stop),
         },
         Err(fault) => nothing(heap, fault.into()),
+    }
+}
+
+pub impl fmt::Display for Given as GivenDisplay {
+    fn fmt<W: fmt::Write>(&self, f: &mut fmt::Formatter<W>) -> fmt::Result {
+        match self {
+            Given::Number(k) => write!(f, "{k}"),
+            Given::Other => write!(f, "with what is no number"),
+        }
     }
 }

@@ -1,5 +1,6 @@
 // Runs a text of the language on trees: `model FILE [--heap WORDS] [--stack WORDS] [--turns N] [--out N] [--depth N]`.
 // Numbers to read come from standard input, and each number shown goes onto a line of standard output.
+use interpreter::run::GivenDisplay;
 use interpreter::run::Outcome;
 use interpreter::run::large;
 use interpreter::run::run_text;

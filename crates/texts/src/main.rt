@@ -1,5 +1,6 @@
 // Runs each text that the command line names, with all it takes and with one less of each: words for boxes, words under way,
 // turns, numbers shown. The numbers to read come from standard input, the same for each.
+use interpreter::run::GivenDisplay;
 use interpreter::run::Outcome;
 use interpreter::run::large;
 use interpreter::run::run_text;
