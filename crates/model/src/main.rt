@@ -1,10 +1,11 @@
 // Runs a text of the language on trees: `model FILE [--heap WORDS] [--stack WORDS] [--turns N] [--out N] [--depth N]`.
 // Numbers to read come from standard input, and each number shown goes onto a line of standard output.
-use model_state::state::Limits;
+use interpreter::run::GivenDisplay;
 use interpreter::run::Outcome;
 use interpreter::run::large;
 use interpreter::run::run_text;
-use model_memory::stop::Stop;
+use model_memory::stop::StopDisplay;
+use model_state::state::Limits;
 use std::alloc::Global;
 use std::env;
 use std::env::Args;
@@ -13,7 +14,8 @@ use std::fs;
 use std::io;
 use std::io::Write;
 
-const USAGE: &str = "usage: model FILE [--heap WORDS] [--stack WORDS] [--turns N] [--out N] [--depth N]";
+const USAGE: &str =
+    "usage: model FILE [--heap WORDS] [--stack WORDS] [--turns N] [--out N] [--depth N]";
 
 // What the command line asks for.
 #[derive(Drop)]
@@ -26,17 +28,35 @@ struct Request {
 fn set(limits: Limits, flag: &str, value: &str) -> Result<Limits, AnyError> {
     let number = value.parse::<u64>()?;
     match flag {
-        "--heap" => Ok(Limits { heap: number, ..limits }),
-        "--stack" => Ok(Limits { stack: number, ..limits }),
-        "--turns" => Ok(Limits { turns: number, ..limits }),
-        "--out" => Ok(Limits { out: number, ..limits }),
-        "--depth" => Ok(Limits { depth: number, ..limits }),
+        "--heap" => Ok(Limits {
+            heap: number,
+            ..limits
+        }),
+        "--stack" => Ok(Limits {
+            stack: number,
+            ..limits
+        }),
+        "--turns" => Ok(Limits {
+            turns: number,
+            ..limits
+        }),
+        "--out" => Ok(Limits {
+            out: number,
+            ..limits
+        }),
+        "--depth" => Ok(Limits {
+            depth: number,
+            ..limits
+        }),
         _ => Err(USAGE.into()),
     }
 }
 
-fn request(mut args: Args<Global>) -> Result<Request, AnyError> {
-    let mut found = Request { file: None, limits: large() };
+fn asked(mut args: Args<Global>) -> Result<Request, AnyError> {
+    let mut found = Request {
+        file: None,
+        limits: large(),
+    };
     for _ in 0..u64::MAX {
         let Some(arg) = args.next() else {
             break;
@@ -75,20 +95,6 @@ fn numbers(heap: Global, text: &str) -> Result<Vec<u64>, AnyError> {
     Ok(found)
 }
 
-// What is said of a stop.
-fn said(stop: Stop) -> &'static str {
-    match stop {
-        Stop::NoText => "no text",
-        Stop::Wrong => "wrong",
-        Stop::NoHeap => "no room for a box",
-        Stop::NoStack => "no room for what is under way",
-        Stop::NoTurns => "no turns left",
-        Stop::NoOutput => "no room in the output",
-        Stop::TooDeep => "too deep",
-        Stop::Memory => "out of memory",
-    }
-}
-
 fn show(rt: &LibcRuntime, outcome: &Outcome) -> Result<(), AnyError> {
     let mut out = rt.stdout().lock();
     for k in outcome.shown.iter() {
@@ -101,14 +107,14 @@ fn run(rt: &LibcRuntime) -> Result<Outcome, AnyError> {
     let heap = rt.alloc();
     let mut args = env::args(rt)?;
     let _ = args.next();
-    let request = request(args)?;
-    let Some(file) = request.file else {
+    let Request { file, limits } = asked(args)?;
+    let Some(file) = file else {
         return Err(USAGE.into());
     };
     let text = fs::read(rt, file.as_str())?;
     let input = io::read_to_string(heap, rt.stdin())?;
     let inputs = numbers(heap, input.as_str())?;
-    let outcome = run_text(heap, text.as_slice(), request.limits, inputs);
+    let outcome = run_text(heap, text.as_slice(), limits, inputs);
     show(rt, &outcome)?;
     Ok(outcome)
 }
@@ -120,15 +126,15 @@ fn main(rt: LibcRuntime) -> Result<(), AnyError> {
     let stack = used.stack;
     let turns = used.turns;
     let told = match outcome.end {
-        Ok(value) => eprintln!(rt, "ended {value}\nused: heap={heap} stack={stack} turns={turns}"),
-        Err(stop) => {
-            let what = said(stop);
-            eprintln!(rt, "{what}\nused: heap={heap} stack={stack} turns={turns}")
-        }
+        Ok(value) => eprintln!(
+            rt,
+            "ended {value}\nused: heap={heap} stack={stack} turns={turns}"
+        ),
+        Err(stop) => { eprintln!(rt, "{stop}\nused: heap={heap} stack={stack} turns={turns}") }
     };
     told?;
     match outcome.end {
         Ok(_) => Ok(()),
-        Err(stop) => Err(said(stop).into()),
+        Err(_) => Err("it came to a stop".into()),
     }
 }

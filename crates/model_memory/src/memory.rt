@@ -27,14 +27,24 @@ pub struct Memory {
 
 impl Memory {
     pub fn new(heap: Global) -> Self {
-        Memory { heap, slots: Vec::new(heap), free: Vec::new(heap), made: 0 }
+        Memory {
+            heap,
+            slots: Vec::new(heap),
+            free: Vec::new(heap),
+            made: 0,
+        }
     }
 
     // A new root that holds the value.
     pub fn add(&mut self, value: Value, words: u64) -> Result<RootId, Stop> {
         let serial = self.made;
         self.made = serial.checked_add(1).ok_or(Stop::TooDeep)?;
-        let one = Slot { serial, live: true, value, words };
+        let one = Slot {
+            serial,
+            live: true,
+            value,
+            words,
+        };
         if let Some(slot) = self.free.pop() {
             if slot < self.slots.len() {
                 self.slots[slot] = one;
@@ -48,7 +58,11 @@ impl Memory {
 
     fn slot(&self, root: RootId) -> Option<&Slot> {
         let slot = self.slots.get(root.slot)?;
-        if slot.live && slot.serial == root.serial { Some(slot) } else { None }
+        if slot.live && slot.serial == root.serial {
+            Some(slot)
+        } else {
+            None
+        }
     }
 
     // What is at the root.

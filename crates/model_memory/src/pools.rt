@@ -18,7 +18,10 @@ pub struct Pools {
 
 impl Pools {
     pub fn new(heap: Global, limit: u64) -> Self {
-        Pools { classes: Vec::new(heap), limit }
+        Pools {
+            classes: Vec::new(heap),
+            limit,
+        }
     }
 
     // The peaks of all sizes together, the class of one size left out.
@@ -52,7 +55,9 @@ impl Pools {
 
     // Whether one size may have that peak.
     fn admits(&self, words: u64, peak: u64) -> bool {
-        self.others(words).saturating_add(u128::from(words) * u128::from(peak)) <= u128::from(self.limit)
+        self.others(words)
+            .saturating_add(u128::from(words) * u128::from(peak))
+            <= u128::from(self.limit)
     }
 
     // One box more of that size.
@@ -61,7 +66,12 @@ impl Pools {
             if !self.admits(words, 1) {
                 return Err(Stop::NoHeap);
             }
-            self.classes.push(Class { words, in_use: 1, peak: 1 })?;
+            self.classes
+                .push(Class {
+                    words,
+                    in_use: 1,
+                    peak: 1,
+                })?;
             return Ok(());
         };
         if i >= self.classes.len() {
@@ -73,7 +83,11 @@ impl Pools {
         if !self.admits(words, peak) {
             return Err(Stop::NoHeap);
         }
-        self.classes[i] = Class { words, in_use, peak };
+        self.classes[i] = Class {
+            words,
+            in_use,
+            peak,
+        };
         Ok(())
     }
 
@@ -82,7 +96,11 @@ impl Pools {
         if let Some(i) = self.find(words) {
             if i < self.classes.len() {
                 let class = self.classes[i];
-                self.classes[i] = Class { words, in_use: class.in_use.saturating_sub(1), peak: class.peak };
+                self.classes[i] = Class {
+                    words,
+                    in_use: class.in_use.saturating_sub(1),
+                    peak: class.peak,
+                };
             }
         }
     }

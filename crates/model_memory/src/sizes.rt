@@ -64,7 +64,11 @@ fn data_size(datas: &Vec<Data>, known: &Vec<Option<u64>>, one: &Data) -> Option<
 }
 
 // One round: what is known of each data type once all those before are known.
-fn round(heap: Global, datas: &Vec<Data>, known: &Vec<Option<u64>>) -> Result<Vec<Option<u64>>, Stop> {
+fn round(
+    heap: Global,
+    datas: &Vec<Data>,
+    known: &Vec<Option<u64>>,
+) -> Result<Vec<Option<u64>>, Stop> {
     let mut next = Vec::new(heap);
     for one in datas.iter() {
         next.push(data_size(datas, known, one))?;
@@ -86,12 +90,22 @@ fn data_sizes(heap: Global, datas: &Vec<Data>) -> Result<Vec<Option<u64>>, Stop>
 impl Sizes {
     pub fn new(heap: Global, program: &Program) -> Result<Self, Stop> {
         let datas = data_sizes(heap, &program.datas)?;
-        let mut sizes = Sizes { datas, frames: Vec::new(heap) };
+        let mut sizes = Sizes {
+            datas,
+            frames: Vec::new(heap),
+        };
         let largest = sizes.largest(program);
         for function in program.functions.iter() {
             let params = function.params.len() as u64;
-            let places = function.body.pieces().saturating_add(2).saturating_add(params);
-            let frame = places.saturating_mul(largest).saturating_mul(8).saturating_add(64);
+            let places = function
+                .body
+                .pieces()
+                .saturating_add(2)
+                .saturating_add(params);
+            let frame = places
+                .saturating_mul(largest)
+                .saturating_mul(8)
+                .saturating_add(64);
             sizes.frames.push(frame)?;
         }
         Ok(sizes)

@@ -25,7 +25,10 @@ pub struct Place {
 
 impl Place {
     pub fn copy(&self) -> Result<Place, Stop> {
-        Ok(Place { root: self.root, path: self.path.clone()? })
+        Ok(Place {
+            root: self.root,
+            path: self.path.clone()?,
+        })
     }
 
     // The place of the field of that number.
@@ -151,7 +154,9 @@ impl Value {
                 *below = fields.levels();
                 Ok(old)
             }
-            Value::Number(_) | Value::Box(_) | Value::Reference(_) | Value::Hole => Err(Stop::Wrong),
+            Value::Number(_) | Value::Box(_) | Value::Reference(_) | Value::Hole => Err(
+                Stop::Wrong,
+            ),
         }
     }
 }

@@ -28,7 +28,10 @@ impl State {
     }
 
     pub fn whole_place(&self, root: RootId) -> Place {
-        Place { root, path: Vec::new(self.heap) }
+        Place {
+            root,
+            path: Vec::new(self.heap),
+        }
     }
 
     // Where a name's value is, or where it points to.
@@ -36,7 +39,8 @@ impl State {
         let root = self.root_of(name)?;
         match self.memory.whole(root)? {
             Value::Reference(place) => place.copy(),
-            Value::Number(_) | Value::Data(_, _, _) | Value::Box(_) | Value::Hole => Ok(self.whole_place(root)),
+            Value::Number(_) | Value::Data(_, _, _) | Value::Box(_) | Value::Hole =>
+                Ok(self.whole_place(root)),
         }
     }
 
@@ -45,7 +49,9 @@ impl State {
         let root = self.root_of(name)?;
         match self.memory.whole(root)? {
             Value::Reference(place) => place.copy(),
-            Value::Number(_) | Value::Data(_, _, _) | Value::Box(_) | Value::Hole => Err(Stop::Wrong),
+            Value::Number(_) | Value::Data(_, _, _) | Value::Box(_) | Value::Hole => Err(
+                Stop::Wrong,
+            ),
         }
     }
 
@@ -76,7 +82,9 @@ impl State {
         let place = self.target(name)?;
         let number = match self.memory.read(&place)? {
             Value::Number(k) => *k,
-            Value::Data(_, _, _) | Value::Box(_) | Value::Reference(_) | Value::Hole => return Err(Stop::Wrong),
+            Value::Data(_, _, _) | Value::Box(_) | Value::Reference(_) | Value::Hole => return Err(
+                Stop::Wrong,
+            ),
         };
         self.push(Value::Number(number))
     }

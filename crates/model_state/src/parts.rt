@@ -22,20 +22,32 @@ impl State {
         let place = self.place_of(name)?;
         let (ctor, count) = match self.memory.read(&place)? {
             Value::Data(ctor, _, fields) => (*ctor, fields.len()),
-            Value::Number(_) | Value::Box(_) | Value::Reference(_) | Value::Hole => return Err(Stop::Wrong),
+            Value::Number(_) | Value::Box(_) | Value::Reference(_) | Value::Hole => return Err(
+                Stop::Wrong,
+            ),
         };
         Ok(Matched { place, ctor, count })
     }
 
     // The parts get names: what was taken apart, or references to it.
-    pub fn bind_parts(&mut self, way: Access, matched: Matched, names: &Vec<Name>) -> Result<(), Stop> {
-        let Matched { place, ctor: _, count } = matched;
+    pub fn bind_parts(
+        &mut self,
+        way: Access,
+        matched: Matched,
+        names: &Vec<Name>,
+    ) -> Result<(), Stop> {
+        let Matched {
+            place,
+            ctor: _,
+            count,
+        } = matched;
         if names.len() != count {
             return Err(Stop::Wrong);
         }
         match way {
             Access::Take => {
-                let whole = self.memory.replace(place.root, place.path.as_slice(), Value::Hole)?;
+                let whole = self.memory
+                    .replace(place.root, place.path.as_slice(), Value::Hole)?;
                 self.bind_fields(whole, names)
             }
             Access::View | Access::Edit => self.bind_references(&place, names),
@@ -66,7 +78,11 @@ impl State {
     }
 
     // Parameters get the arguments, of which the last one stands first.
-    pub fn bind_params(&mut self, params: &Vec<Param>, mut arguments: Vec<Value>) -> Result<(), Stop> {
+    pub fn bind_params(
+        &mut self,
+        params: &Vec<Param>,
+        mut arguments: Vec<Value>,
+    ) -> Result<(), Stop> {
         if arguments.len() != params.len() {
             return Err(Stop::Wrong);
         }
@@ -82,7 +98,8 @@ impl State {
         let root = self.root_of(from)?;
         let inner = match self.memory.whole(root)? {
             Value::Box(inner) => *inner,
-            Value::Number(_) | Value::Data(_, _, _) | Value::Reference(_) | Value::Hole => return Err(Stop::Wrong),
+            Value::Number(_) | Value::Data(_, _, _) | Value::Reference(_) | Value::Hole =>
+                return Err(Stop::Wrong),
         };
         let words = self.memory.words(inner)?;
         let _moved = self.memory.take(root)?;
@@ -96,7 +113,8 @@ impl State {
         let place = self.target(from)?;
         let root = match self.memory.read(&place)? {
             Value::Box(inner) => *inner,
-            Value::Number(_) | Value::Data(_, _, _) | Value::Reference(_) | Value::Hole => return Err(Stop::Wrong),
+            Value::Number(_) | Value::Data(_, _, _) | Value::Reference(_) | Value::Hole =>
+                return Err(Stop::Wrong),
         };
         let inside = self.whole_place(root);
         self.bind(name, Value::Reference(inside))

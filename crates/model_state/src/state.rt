@@ -80,7 +80,9 @@ impl State {
     pub fn pop_number(&mut self) -> Result<u64, Stop> {
         match self.pop()?.parts() {
             Parts::Number(k) => Ok(k),
-            Parts::Data(_, _) | Parts::Box(_) | Parts::Reference(_) | Parts::Hole => Err(Stop::Wrong),
+            Parts::Data(_, _) | Parts::Box(_) | Parts::Reference(_) | Parts::Hole => Err(
+                Stop::Wrong,
+            ),
         }
     }
 

@@ -90,7 +90,8 @@ impl State {
         if let Value::Hole = self.memory.read(&place)? {
             return Err(Stop::Wrong);
         }
-        let old = self.memory.replace(place.root, place.path.as_slice(), value)?;
+        let old = self.memory
+            .replace(place.root, place.path.as_slice(), value)?;
         Ok(Next::Then(Step::Drop(old)))
     }
 

@@ -27,10 +27,19 @@ fn last_of(program: &Program, ctor: Name) -> Option<Name> {
     program.datas.get(home)?.last
 }
 
-fn add_rows(rows: &mut Vec<CtorRow>, sizes: &Sizes, program: &Program, one: &Data) -> Result<(), Stop> {
+fn add_rows(
+    rows: &mut Vec<CtorRow>,
+    sizes: &Sizes,
+    program: &Program,
+    one: &Data,
+) -> Result<(), Stop> {
     for ctor in one.ctors.iter() {
         let words = sizes.of_ctor(program, ctor.name);
-        rows.push(CtorRow { name: ctor.name, words, last: last_of(program, ctor.name) })?;
+        rows.push(CtorRow {
+            name: ctor.name,
+            words,
+            last: last_of(program, ctor.name),
+        })?;
     }
     Ok(())
 }

@@ -20,7 +20,11 @@ pub struct Cursor {
 
 impl Cursor {
     pub fn new(heap: Global, tokens: Vec<Token>) -> Self {
-        Cursor { heap, tokens, at: 0 }
+        Cursor {
+            heap,
+            tokens,
+            at: 0,
+        }
     }
 
     pub fn peek(&self) -> Token {
@@ -45,14 +49,24 @@ impl Cursor {
     pub fn is_at_sign(&self, sign: Sign) -> bool {
         match self.peek() {
             Token::Sign(s) => s == sign,
-            Token::Lower(_) | Token::Upper(_) | Token::Number(_) | Token::Keyword(_) | Token::Unknown | Token::End => false,
+            Token::Lower(_)
+            | Token::Upper(_)
+            | Token::Number(_)
+            | Token::Keyword(_)
+            | Token::Unknown
+            | Token::End => false,
         }
     }
 
     pub fn is_at_keyword(&self, key: Keyword) -> bool {
         match self.peek() {
             Token::Keyword(k) => k == key,
-            Token::Lower(_) | Token::Upper(_) | Token::Number(_) | Token::Sign(_) | Token::Unknown | Token::End => false,
+            Token::Lower(_)
+            | Token::Upper(_)
+            | Token::Number(_)
+            | Token::Sign(_)
+            | Token::Unknown
+            | Token::End => false,
         }
     }
 
@@ -66,7 +80,11 @@ impl Cursor {
     }
 
     pub fn expect(&mut self, sign: Sign) -> Result<(), Fault> {
-        if self.accept(sign) { Ok(()) } else { Err(Fault::NoText) }
+        if self.accept(sign) {
+            Ok(())
+        } else {
+            Err(Fault::NoText)
+        }
     }
 
     pub fn expect_keyword(&mut self, key: Keyword) -> Result<(), Fault> {
@@ -82,7 +100,12 @@ impl Cursor {
     pub fn lower(&mut self) -> Result<Name, Fault> {
         match self.next() {
             Token::Lower(name) => Ok(name),
-            Token::Upper(_) | Token::Number(_) | Token::Keyword(_) | Token::Sign(_) | Token::Unknown | Token::End => Err(Fault::NoText),
+            Token::Upper(_)
+            | Token::Number(_)
+            | Token::Keyword(_)
+            | Token::Sign(_)
+            | Token::Unknown
+            | Token::End => Err(Fault::NoText),
         }
     }
 
@@ -90,7 +113,12 @@ impl Cursor {
     pub fn upper(&mut self) -> Result<Name, Fault> {
         match self.next() {
             Token::Upper(name) => Ok(name),
-            Token::Lower(_) | Token::Number(_) | Token::Keyword(_) | Token::Sign(_) | Token::Unknown | Token::End => Err(Fault::NoText),
+            Token::Lower(_)
+            | Token::Number(_)
+            | Token::Keyword(_)
+            | Token::Sign(_)
+            | Token::Unknown
+            | Token::End => Err(Fault::NoText),
         }
     }
 

@@ -36,7 +36,13 @@ fn prefixes(cursor: &mut Cursor) -> Result<(Vec<Prefix>, Token), Fault> {
             Token::Keyword(Keyword::Box) => found.push(Prefix::Box)?,
             Token::Keyword(Keyword::Ref) => found.push(Prefix::Ref)?,
             Token::Keyword(Keyword::Mut) => found.push(Prefix::Mut)?,
-            Token::Keyword(_) | Token::Lower(_) | Token::Upper(_) | Token::Number(_) | Token::Sign(_) | Token::Unknown | Token::End => {
+            Token::Keyword(_)
+            | Token::Lower(_)
+            | Token::Upper(_)
+            | Token::Number(_)
+            | Token::Sign(_)
+            | Token::Unknown
+            | Token::End => {
                 return Ok((found, token));
             }
         }
@@ -49,7 +55,12 @@ fn a_type(cursor: &mut Cursor) -> Result<Type, Fault> {
     let mut whole = match token {
         Token::Keyword(Keyword::Int) => Type::Int,
         Token::Lower(name) => Type::Data(name),
-        Token::Keyword(_) | Token::Upper(_) | Token::Number(_) | Token::Sign(_) | Token::Unknown | Token::End => return Err(Fault::NoText),
+        Token::Keyword(_)
+        | Token::Upper(_)
+        | Token::Number(_)
+        | Token::Sign(_)
+        | Token::Unknown
+        | Token::End => return Err(Fault::NoText),
     };
     while let Some(prefix) = found.pop() {
         let inner = Box::new(cursor.heap, whole)?;
@@ -77,7 +88,11 @@ fn types(cursor: &mut Cursor) -> Result<Vec<Type>, Fault> {
 
 fn constructor(cursor: &mut Cursor) -> Result<Ctor, Fault> {
     let name = cursor.upper()?;
-    let fields = if cursor.accept(Sign::LeftParen) { types(cursor)? } else { Vec::new(cursor.heap) };
+    let fields = if cursor.accept(Sign::LeftParen) {
+        types(cursor)?
+    } else {
+        Vec::new(cursor.heap)
+    };
     Ok(Ctor { name, fields })
 }
 
@@ -134,7 +149,12 @@ fn a_function(cursor: &mut Cursor) -> Result<Function, Fault> {
     cursor.expect(Sign::Colon)?;
     let gives = a_type(cursor)?;
     let body = body(cursor, MOST_BRACES)?;
-    Ok(Function { name, params, gives, body })
+    Ok(Function {
+        name,
+        params,
+        gives,
+        body,
+    })
 }
 
 fn items(cursor: &mut Cursor, main: Option<Name>) -> Result<Program, Fault> {
@@ -145,10 +165,19 @@ fn items(cursor: &mut Cursor, main: Option<Name>) -> Result<Program, Fault> {
             Token::Keyword(Keyword::Data) => datas.push(a_data(cursor)?)?,
             Token::Keyword(Keyword::Fn) => functions.push(a_function(cursor)?)?,
             Token::End => break,
-            Token::Keyword(_) | Token::Lower(_) | Token::Upper(_) | Token::Number(_) | Token::Sign(_) | Token::Unknown => return Err(Fault::NoText),
+            Token::Keyword(_)
+            | Token::Lower(_)
+            | Token::Upper(_)
+            | Token::Number(_)
+            | Token::Sign(_)
+            | Token::Unknown => return Err(Fault::NoText),
         }
     }
-    Ok(Program { datas, functions, main })
+    Ok(Program {
+        datas,
+        functions,
+        main,
+    })
 }
 
 // The program that the text is.

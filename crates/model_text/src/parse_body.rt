@@ -143,7 +143,11 @@ fn conditional(cursor: &mut Cursor, depth: usize) -> Result<Stmt, Fault> {
     let yes = block(cursor, depth)?;
     cursor.expect_keyword(Keyword::Else)?;
     let no = block(cursor, depth)?;
-    Ok(Stmt::If(test, Box::new(cursor.heap, yes)?, Box::new(cursor.heap, no)?))
+    Ok(Stmt::If(
+        test,
+        Box::new(cursor.heap, yes)?,
+        Box::new(cursor.heap, no)?,
+    ))
 }
 
 fn looping(cursor: &mut Cursor, depth: usize) -> Result<Stmt, Fault> {
@@ -183,7 +187,12 @@ fn statement(cursor: &mut Cursor, depth: usize) -> Result<Stmt, Fault> {
             cursor.expect(Sign::Equals)?;
             Ok(Stmt::Assign(name, closed(cursor)?))
         }
-        Token::Keyword(_) | Token::Sign(_) | Token::Upper(_) | Token::Number(_) | Token::Unknown | Token::End => Err(Fault::NoText),
+        Token::Keyword(_)
+        | Token::Sign(_)
+        | Token::Upper(_)
+        | Token::Number(_)
+        | Token::Unknown
+        | Token::End => Err(Fault::NoText),
     }
 }
 
@@ -215,7 +224,11 @@ fn giving_if(cursor: &mut Cursor, depth: usize) -> Result<Tail, Fault> {
     let yes = body(cursor, depth)?;
     cursor.expect_keyword(Keyword::Else)?;
     let no = body(cursor, depth)?;
-    Ok(Tail::GiveIf(test, Box::new(cursor.heap, yes)?, Box::new(cursor.heap, no)?))
+    Ok(Tail::GiveIf(
+        test,
+        Box::new(cursor.heap, yes)?,
+        Box::new(cursor.heap, no)?,
+    ))
 }
 
 fn giving_match(cursor: &mut Cursor, depth: usize, way: Access) -> Result<Tail, Fault> {

@@ -50,7 +50,16 @@ fn operator(token: Token) -> Option<Operator> {
         Sign::Star => Some(Operator::Multiply),
         Sign::Slash => Some(Operator::Divide),
         Sign::Percent => Some(Operator::Remainder),
-        Sign::LeftParen | Sign::RightParen | Sign::LeftBrace | Sign::RightBrace | Sign::Comma | Sign::Semicolon | Sign::Colon | Sign::Bar | Sign::Equals | Sign::And => None,
+        Sign::LeftParen
+        | Sign::RightParen
+        | Sign::LeftBrace
+        | Sign::RightBrace
+        | Sign::Comma
+        | Sign::Semicolon
+        | Sign::Colon
+        | Sign::Bar
+        | Sign::Equals
+        | Sign::And => None,
     }
 }
 
@@ -65,10 +74,12 @@ fn linked(heap: Global, mut items: Vec<Expr>) -> Result<Exprs, Fault> {
 
 fn applied(heap: Global, callee: Callee, items: Vec<Expr>) -> Result<Expr, Fault> {
     let list = Box::new(heap, linked(heap, items)?)?;
-    Ok(match callee {
-        Callee::Constructor(name) => Expr::Construct(name, list),
-        Callee::Function(name) => Expr::Call(name, list),
-    })
+    Ok(
+        match callee {
+            Callee::Constructor(name) => Expr::Construct(name, list),
+            Callee::Function(name) => Expr::Call(name, list),
+        },
+    )
 }
 
 fn binary(heap: Global, op: Operator, left: Expr, right: Expr) -> Result<Expr, Fault> {
@@ -113,26 +124,44 @@ fn fold(heap: Global, pending: &mut Vec<Pending>, least: u8, operand: Expr) -> R
 }
 
 // A name: a variable, or a call whose arguments are still to come.
-fn after_lower(cursor: &mut Cursor, pending: &mut Vec<Pending>, name: Name) -> Result<Option<Expr>, Fault> {
+fn after_lower(
+    cursor: &mut Cursor,
+    pending: &mut Vec<Pending>,
+    name: Name,
+) -> Result<Option<Expr>, Fault> {
     if !cursor.accept(Sign::LeftParen) {
         return Ok(Some(Expr::Variable(name)));
     }
     if cursor.accept(Sign::RightParen) {
         return Ok(Some(Expr::Call(name, Box::new(cursor.heap, Exprs::End)?)));
     }
-    open(pending, Pending::Arguments(Callee::Function(name), Vec::new(cursor.heap)))?;
+    open(
+        pending,
+        Pending::Arguments(Callee::Function(name), Vec::new(cursor.heap)),
+    )?;
     Ok(None)
 }
 
-fn after_upper(cursor: &mut Cursor, pending: &mut Vec<Pending>, name: Name) -> Result<Option<Expr>, Fault> {
+fn after_upper(
+    cursor: &mut Cursor,
+    pending: &mut Vec<Pending>,
+    name: Name,
+) -> Result<Option<Expr>, Fault> {
     if !cursor.accept(Sign::LeftParen) {
         return Ok(Some(Expr::Construct(name, Box::new(cursor.heap, Exprs::End)?)));
     }
-    open(pending, Pending::Arguments(Callee::Constructor(name), Vec::new(cursor.heap)))?;
+    open(
+        pending,
+        Pending::Arguments(Callee::Constructor(name), Vec::new(cursor.heap)),
+    )?;
     Ok(None)
 }
 
-fn after_sign(cursor: &mut Cursor, pending: &mut Vec<Pending>, sign: Sign) -> Result<Option<Expr>, Fault> {
+fn after_sign(
+    cursor: &mut Cursor,
+    pending: &mut Vec<Pending>,
+    sign: Sign,
+) -> Result<Option<Expr>, Fault> {
     match sign {
         Sign::LeftParen => {
             open(pending, Pending::Paren)?;
@@ -184,17 +213,27 @@ fn operand(cursor: &mut Cursor, pending: &mut Vec<Pending>) -> Result<Option<Exp
 fn compares(pending: &Vec<Pending>) -> bool {
     match pending.last() {
         Some(Pending::Left(op, _)) => level(*op) == 1,
-        Some(Pending::Paren) | Some(Pending::BoxOf) | Some(Pending::Arguments(_, _)) | None => false,
+        Some(Pending::Paren) | Some(Pending::BoxOf) | Some(Pending::Arguments(_, _)) | None =>
+            false,
     }
 }
 
 // Behind an operand: an operator that takes it as its left side; none where there is no such.
-fn as_left(cursor: &mut Cursor, pending: &mut Vec<Pending>, whole: Expr) -> Result<Option<Expr>, Fault> {
+fn as_left(
+    cursor: &mut Cursor,
+    pending: &mut Vec<Pending>,
+    whole: Expr,
+) -> Result<Option<Expr>, Fault> {
     let Some(op) = operator(cursor.peek()) else {
         return Ok(Some(whole));
     };
     let least = level(op);
-    let left = fold(cursor.heap, pending, if least == 1 { 2 } else { least }, whole)?;
+    let left = fold(
+        cursor.heap,
+        pending,
+        if least == 1 { 2 } else { least },
+        whole,
+    )?;
     if least == 1 && compares(pending) {
         return Ok(Some(left));
     }
@@ -204,7 +243,12 @@ fn as_left(cursor: &mut Cursor, pending: &mut Vec<Pending>, whole: Expr) -> Resu
 }
 
 // What was opened last gets its value: the operand that this makes, or none where another argument follows.
-fn close(cursor: &mut Cursor, pending: &mut Vec<Pending>, top: Pending, value: Expr) -> Result<Option<Expr>, Fault> {
+fn close(
+    cursor: &mut Cursor,
+    pending: &mut Vec<Pending>,
+    top: Pending,
+    value: Expr,
+) -> Result<Option<Expr>, Fault> {
     match top {
         Pending::Paren => {
             cursor.expect(Sign::RightParen)?;
@@ -225,7 +269,11 @@ fn close(cursor: &mut Cursor, pending: &mut Vec<Pending>, top: Pending, value: E
 }
 
 // Goes on behind an operand: the whole expression, or none where a further operand is to come.
-fn behind(cursor: &mut Cursor, pending: &mut Vec<Pending>, first: Expr) -> Result<Option<Expr>, Fault> {
+fn behind(
+    cursor: &mut Cursor,
+    pending: &mut Vec<Pending>,
+    first: Expr,
+) -> Result<Option<Expr>, Fault> {
     let mut whole = first;
     for _ in 0..u64::MAX {
         let Some(value) = as_left(cursor, pending, whole)? else {

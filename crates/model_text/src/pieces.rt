@@ -15,7 +15,12 @@ impl Expr {
         loop {
             sum = sum.saturating_add(1);
             match part {
-                Expr::Number(_) | Expr::Variable(_) | Expr::Share(_) | Expr::Lend(_) | Expr::Load(_) | Expr::Get => return sum,
+                Expr::Number(_)
+                | Expr::Variable(_)
+                | Expr::Share(_)
+                | Expr::Lend(_)
+                | Expr::Load(_)
+                | Expr::Get => return sum,
                 Expr::Binary(_, left, right) => {
                     sum = sum.saturating_add(right.pieces());
                     part = left;
@@ -51,7 +56,9 @@ impl Stmt {
             Stmt::Assign(_, value) => value.pieces(),
             Stmt::Store(_, value) => value.pieces(),
             Stmt::Put(value) => value.pieces(),
-            Stmt::If(test, yes, no) => test.pieces().saturating_add(yes.pieces()).saturating_add(no.pieces()),
+            Stmt::If(test, yes, no) => test.pieces()
+                .saturating_add(yes.pieces())
+                .saturating_add(no.pieces()),
             Stmt::While(test, block) => test.pieces().saturating_add(block.pieces()),
             Stmt::Match(_, _, alts) => alts.pieces(),
             Stmt::Open(_, _) | Stmt::Inside(_, _) => 0,
@@ -84,7 +91,8 @@ impl Alts {
             match part {
                 Alts::NoAlts => return sum,
                 Alts::Alt(_, names, block, rest) => {
-                    sum = sum.saturating_add(names.len() as u64).saturating_add(block.pieces());
+                    sum = sum.saturating_add(names.len() as u64)
+                        .saturating_add(block.pieces());
                     part = rest;
                 }
             }
@@ -103,7 +111,9 @@ impl Tail {
     pub fn pieces(&self) -> u64 {
         match self {
             Tail::Give(value) => value.pieces(),
-            Tail::GiveIf(test, yes, no) => test.pieces().saturating_add(yes.pieces()).saturating_add(no.pieces()),
+            Tail::GiveIf(test, yes, no) => test.pieces()
+                .saturating_add(yes.pieces())
+                .saturating_add(no.pieces()),
             Tail::GiveMatch(_, _, arms) => arms.pieces().saturating_add(1),
         }
     }
@@ -117,7 +127,8 @@ impl Arms {
             match part {
                 Arms::NoArms => return sum,
                 Arms::Arm(_, names, body, rest) => {
-                    sum = sum.saturating_add(names.len() as u64).saturating_add(body.pieces());
+                    sum = sum.saturating_add(names.len() as u64)
+                        .saturating_add(body.pieces());
                     part = rest;
                 }
             }

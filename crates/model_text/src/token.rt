@@ -105,7 +105,9 @@ fn decimal(digits: &[u8]) -> Option<u64> {
         if !matches!(*digit, b'0'..=b'9') {
             return None;
         }
-        value = value.checked_mul(10)?.checked_add(u64::from(*digit - b'0'))?;
+        value = value
+            .checked_mul(10)?
+            .checked_add(u64::from(*digit - b'0'))?;
     }
     Some(value)
 }
@@ -203,7 +205,10 @@ fn sign_token(byte: u8) -> Token {
 }
 
 pub fn tokenize<'t>(heap: Global, text: &'t [u8]) -> Result<Tokens<'t>, Fault> {
-    let mut found = Tokens { tokens: Vec::new(heap), names: Vec::new(heap) };
+    let mut found = Tokens {
+        tokens: Vec::new(heap),
+        names: Vec::new(heap),
+    };
     let mut at = 0;
     while at < text.len() {
         let byte = text[at];

@@ -135,7 +135,12 @@ impl Drop for Expr {
     fn drop(mut self) {
         loop {
             match self {
-                Expr::Number(_) | Expr::Variable(_) | Expr::Share(_) | Expr::Lend(_) | Expr::Load(_) | Expr::Get => return,
+                Expr::Number(_)
+                | Expr::Variable(_)
+                | Expr::Share(_)
+                | Expr::Lend(_)
+                | Expr::Load(_)
+                | Expr::Get => return,
                 Expr::Binary(_, left, right) => {
                     let _right = Box::into_inner(right);
                     self = Box::into_inner(left);
@@ -171,7 +176,10 @@ impl Drop for Exprs {
 impl Drop for Stmt {
     fn drop(self) {
         match self {
-            Stmt::Bind(_, _value) | Stmt::Assign(_, _value) | Stmt::Store(_, _value) | Stmt::Put(_value) => {}
+            Stmt::Bind(_, _value)
+            | Stmt::Assign(_, _value)
+            | Stmt::Store(_, _value)
+            | Stmt::Put(_value) => {}
             Stmt::If(_test, yes, no) => {
                 let _yes = Box::into_inner(yes);
                 let _no = Box::into_inner(no);
