@@ -1,0 +1,3 @@
+pub mod SizeFuel
+pub mod SizesOk
+pub mod SizeRounds

@@ -1,0 +1,4 @@
+-- Declarations: heads of functions, sizes of data, and what is asked besides bodies.
+pub mod Heads
+pub mod Sizes
+pub mod Rest
