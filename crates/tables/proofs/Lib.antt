@@ -1,3 +1,4 @@
+pub mod CollectOk
 pub mod SizeFuel
 pub mod SizesOk
 pub mod SizeRounds
