@@ -1,3 +1,10 @@
+pub mod Index
+pub mod Look
+pub mod RowWords
+pub mod Frame
+pub mod Declares
+pub mod Noted
+pub mod CollectLoop
 pub mod CollectOk
 pub mod SizeFuel
 pub mod SizesOk

@@ -1,4 +1,30 @@
+// The declarations of a program: data, constructors and functions in lent words, their look-up, sizes, and what is asked besides bodies.
+
 ghost use Rattle.tables.specs.Sizes.{«Sizes-right»};
+
+mod collecting;
+mod ids;
+mod progress;
+mod room;
+mod row;
+mod rows;
+mod span;
+mod tables;
+
+pub use collecting::collect;
+pub use ids::CtorId;
+pub use ids::DataId;
+pub use ids::FnId;
+pub use ids::Owner;
+pub use progress::Progress;
+pub use room::Room;
+pub use row::Row;
+pub use rows::Declared;
+pub use rows::DeclaredRow;
+pub use rows::Parameter;
+pub use rows::ParameterRow;
+pub use span::Span;
+pub use tables::Tables;
 
 // A table of sizes that one more round leaves as it is has the definition's sizes.
 pub fn sizes_right() -> u8

@@ -1,0 +1,19 @@
+-- Rows that point into other tables, and into the code.
+use mathlib.Core.List.{List}
+use Prim.Native.Nat.{ℕ, _≤_, _<_}
+use lib.ListN.{getD}
+use Rattle.tables.specs.Rows.{declared-row, param-row}
+
+-- the parts of the first n rows stand before m
+abbrev pub Parts : List ℕ → ℕ → ℕ → Type 0
+Parts ws n m = (k : ℕ) → k < n → declared-row ws k .parts .end ≤ m
+
+-- the instructions of the first n rows stand before m
+abbrev pub Places : List ℕ → ℕ → ℕ → Type 0
+Places ws n m = (k : ℕ) → k < n → declared-row ws k .at < m
+
+abbrev pub FieldPlaces : List ℕ → ℕ → ℕ → Type 0
+FieldPlaces ws n m = (k : ℕ) → k < n → getD ws k 0 < m
+
+abbrev pub ParamPlaces : List ℕ → ℕ → ℕ → Type 0
+ParamPlaces ws n m = (k : ℕ) → k < n → param-row ws k .at < m
