@@ -1,2 +1,3 @@
 pub mod Tests
 pub mod LogWords
+pub mod JoinWords

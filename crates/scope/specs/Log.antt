@@ -68,3 +68,8 @@ joined arms l = rewrite (segments arms) arms l
 abbrev pub ways : List ℕ → ℕ → List ℕ → List Log
 ways ws from [] = []
 ways ws from (e ∷ es) = part ws from (e - from) ∷ ways ws e es
+
+-- the same from what was said below the ways
+abbrev pub behind : List Log → ℕ → Bool → Bool
+behind [] k was = false
+behind (a ∷ arms) k was = or-else (said a k) was || behind arms k was
