@@ -1,0 +1,3 @@
+-- The instruction set.
+pub mod Instr
+pub mod Means

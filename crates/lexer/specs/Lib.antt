@@ -1,0 +1,2 @@
+-- What tokens and names are, over the text.
+pub mod Spelling

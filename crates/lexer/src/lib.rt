@@ -1,0 +1,5 @@
+// A text cut up into tokens.
+
+mod name;
+
+pub use name::Name;
