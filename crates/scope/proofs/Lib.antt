@@ -1,3 +1,4 @@
 pub mod Tests
 pub mod LogWords
 pub mod JoinWords
+pub mod LoanWords

@@ -1,7 +1,10 @@
 -- Tests of numbers as equations.
 use mathlib.Core.Path.{_≡_, refl, sym, ap, _∙_}
 use mathlib.Core.Bool.{Bool, true, false}
-use Prim.Native.Nat.{ℕ}
+use mathlib.Core.List.{List}
+use Prim.Native.Nat.{ℕ, _+_}
+use native.Mathlib.Omega.{arith}
+use lib.ListN.{getD}
 use lib.Dec.{T, eqb, eqb-refl, eqb→eq}
 use Rattle.language.specs.Base.{choose}
 
@@ -24,3 +27,7 @@ choose-yes b x y h = ap (λ b. choose b x y) h
 
 pub choose-no : {A : Type 0} (b : Bool) (x y : A) → b ≡ false → choose b x y ≡ y
 choose-no b x y h = ap (λ b. choose b x y) h
+
+-- a word at a place and none further
+pub first : (ws : List ℕ) (i v : ℕ) → getD ws (i + 0) 0 ≡ v → getD ws i 0 ≡ v
+first ws i v h = let e : i ≡ i + 0 = omega arith in ap (λ i. getD ws i 0) e ∙ h

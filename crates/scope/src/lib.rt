@@ -1,1 +1,4 @@
+pub mod loans;
 pub mod log;
+mod tmp;
+mod words;

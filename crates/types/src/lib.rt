@@ -1,0 +1,16 @@
+// Types: plain values, that name what stands in the code. Nothing is kept for them, and the code isn't changed.
+
+mod role;
+mod same;
+mod layer;
+mod tmp;
+mod ty;
+
+pub use same::Compared;
+pub use same::same_type;
+pub use layer::is_owned;
+pub use layer::shape;
+pub use ty::Base;
+pub use ty::Outer;
+pub use ty::Shape;
+pub use ty::ValueType;
