@@ -1,4 +1,3 @@
 pub mod loans;
 pub mod log;
-mod tmp;
 mod words;

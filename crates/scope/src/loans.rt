@@ -7,7 +7,7 @@ ghost use Rattle.lexer.specs.Spelling.{spelling};
 ghost use Rattle.scope.specs.Loans.{«loan-at», «entry-in», «operand-of», slice, leaves, «ent-of», asks};
 
 use crate::log::Place;
-use crate::tmp::same_name;
+use types::same_name;
 use crate::words::write;
 use lexer::Name;
 

@@ -10,6 +10,7 @@ pub use same::Compared;
 pub use same::same_type;
 pub use layer::is_owned;
 pub use layer::shape;
+pub use tmp::same_name;
 pub use ty::Base;
 pub use ty::Outer;
 pub use ty::Shape;
