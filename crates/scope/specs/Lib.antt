@@ -1,2 +1,3 @@
 pub mod Log
 pub mod Loans
+pub mod Slots

@@ -45,7 +45,7 @@ pub fn is_gone(log: &[u64], top: usize, gaps: &[u64], count: usize, place: Place
 }
 
 // The word for gone, or there.
-fn bit(gone: bool) -> u64
+pub fn bit(gone: bool) -> u64
     ensures { λ r. ⌜ eqb r 1 ≡ gone ⌝ }
 {
     if gone { 1 } else { 0 }
