@@ -1,2 +1,2 @@
 pub mod Layers
-pub mod Spelled
+pub mod SpelledBytes

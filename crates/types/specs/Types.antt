@@ -11,7 +11,9 @@ use Rattle.language.specs.Checks.{same-ty}
 use Rattle.lexer.specs.Spelling.{spelling}
 use Rattle.code.specs.declared.instr.Instr.{Instr}
 use Rattle.code.specs.declared.instr.Instr.the-variants.{Num, Var, Int as AnInt, Op, Make, Call, Arg, Apply, Box as BoxIt, Share, Lend, Load, Get, Bind, Assign, Store, Put, If, Else, EndIf, While, Do, EndWhile, Match, Arm, Part, Body, EndArm, EndMatch, Open, Inside, Give, EndFn, TyInt, TyData, TyBox, TyRef, TyMut, Field, Ctor, Data as ADatum, Param, Fn}
-use Rattle.types.specs.Decode.{decode}
+use Rattle.code.specs.Words.{instr-at}
+use Rattle.std.specs.declared.option.Option.{Option}
+use Rattle.std.specs.declared.option.Option.the-variants.{Some, None}
 use Rattle.types.specs.declared.role.Role.{Role}
 use Rattle.types.specs.declared.role.Role.the-variants.{Int, Named, Boxed, Shared, Lent, Ends, Passes}
 use Rattle.types.specs.declared.ty.Outer.{Outer}
@@ -71,9 +73,13 @@ role-of (ADatum x y) = Ends
 role-of (Param x) = Ends
 role-of (Fn x) = Ends
 
+abbrev pub role-in : Option Instr → Role
+role-in None = Passes
+role-in (Some i) = role-of i
+
 -- behind the code's end nothing is done
 abbrev pub role-at : List ℕ → ℕ → Role
-role-at code k = choose (ltb k (length code / 3)) (role-of (decode code k)) Passes
+role-at code k = choose (ltb k (length code / 3)) (role-in (instr-at code k)) Passes
 
 -- the type under way behind it
 abbrev pub after : List ℕ → Role → Ty → Ty

@@ -3,14 +3,14 @@
 mod role;
 mod same;
 mod layer;
-mod tmp;
+mod spelled;
 mod ty;
 
 pub use same::Compared;
 pub use same::same_type;
 pub use layer::is_owned;
 pub use layer::shape;
-pub use tmp::same_name;
+pub use spelled::same_name;
 pub use ty::Base;
 pub use ty::Outer;
 pub use ty::Shape;

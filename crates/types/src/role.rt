@@ -1,8 +1,8 @@
 ghost use mathlib.Core.Path.{_≡_};
 ghost use Rattle.types.specs.Types.{«role-of», «role-at»};
 
-use crate::tmp::fetch;
 use code::Instr;
+use code::decode;
 use lexer::Name;
 
 // What an instruction does to the type that is under way: types are written inside out, and end with what is declared of them.
@@ -72,7 +72,10 @@ pub fn role_at(code: &[u64], slot: usize) -> Role
     ensures { λ r. ⌜ r ≡ «role-at» (now (code .entry)) slot ⌝ }
 {
     if slot < code.len() / 3 {
-        role_of(fetch(code, slot))
+        match decode(code, slot) {
+            Some(instr) => role_of(instr),
+            None => Role::Passes,
+        }
     } else {
         Role::Passes
     }

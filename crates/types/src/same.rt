@@ -5,7 +5,7 @@ ghost use Rattle.language.specs.Checks.{same-ty};
 ghost use Rattle.types.specs.Types.{«type-of», «shape-of», «Stands»};
 
 use crate::layer::shape;
-use crate::tmp::same_name;
+use crate::spelled::same_name;
 use crate::ty::Shape;
 use crate::ty::ValueType;
 

@@ -1,7 +1,7 @@
 use native.Mathlib.Omega.{arith}
 use mathlib.Core.Path.{_∙_, sym}
-use Rattle.types.proofs.Spelled.{byte-at, no-byte, at-end}
-use Rattle.types.proofs.tmp.word_byte.Needs as need
+use Rattle.types.proofs.SpelledBytes.{byte-at, no-byte, at-end}
+use Rattle.types.proofs.spelled.word_byte.Needs as need
 
 pub returns-then-in-word : need.returns-then-in-word
 returns-then-in-word c = (omega arith, byte-at (c .args .text .now) (c .args .place) (omega arith) (sym (c .if-in-word .taken) ∙ c .in-word .ensures))

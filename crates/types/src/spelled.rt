@@ -1,4 +1,4 @@
-ghost use Prim.Native.Nat.{ℕ, _+_, _*_, _<_};
+ghost use Prim.Native.Nat.{_+_, _<_};
 ghost use mathlib.Core.Path.{_≡_};
 ghost use mathlib.Core.List.{[], _∷_};
 ghost use lib.ListN.{length};
@@ -6,17 +6,8 @@ ghost use Rattle.std.specs.Options.{Cases};
 ghost use Rattle.language.specs.Base.{same};
 ghost use Rattle.language.specs.Text.{«is-word-byte»};
 ghost use Rattle.lexer.specs.Spelling.{spelling, «lexeme-at»};
-ghost use Rattle.types.specs.Decode.{decode};
 
-use code::Instr;
 use lexer::Name;
-
-pub fn fetch(code: &[u64], slot: usize) -> Instr
-    requires { ⌜ 3 * slot + 2 < length (now code) ⌝ }
-    ensures { λ r. ⌜ r ≡ decode (now (code .entry)) slot ⌝ }
-{
-    if code[3 * slot] == 0 { Instr::TyInt } else { Instr::EndFn }
-}
 
 fn in_word(b: u8) -> bool
     ensures { λ r. ⌜ r ≡ «is-word-byte» b ⌝ }
