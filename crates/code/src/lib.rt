@@ -2,6 +2,7 @@
 
 mod from_slot;
 mod instr;
+mod listing;
 mod slot;
 mod to_slot;
 mod words;
@@ -9,6 +10,12 @@ mod words;
 pub use instr::Access;
 pub use instr::Instr;
 pub use instr::Operator;
+pub use lexer::Name;
+pub use lexer::same_name;
+pub use listing::Listed;
+pub use listing::ListedDisplay;
+pub use listing::Listing;
+pub use listing::ListingDisplay;
 pub use slot::Slot;
 pub use words::decode;
 pub use words::encode;

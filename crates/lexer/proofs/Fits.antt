@@ -29,7 +29,7 @@ not-there : (o : Option ℕ) → not (present o) ≡ true → o ≡ none
 not-there none e = refl
 not-there (some n) e = absurd (false≢true e)
 
-not-true : (b : Bool) → not b ≡ true → b ≡ false
+pub not-true : (b : Bool) → not b ≡ true → b ≡ false
 not-true true e = absurd (false≢true e)
 not-true false e = refl
 

@@ -6,3 +6,6 @@ pub mod Signs
 pub mod Classes
 pub mod Fits
 pub mod Tell
+pub mod SameToken
+pub mod Asks
+pub mod Few

@@ -4,3 +4,4 @@ pub mod Places
 pub mod Tokens
 pub mod Ahead
 pub mod Left
+pub mod Asks

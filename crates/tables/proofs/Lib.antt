@@ -8,4 +8,5 @@ pub mod CollectLoop
 pub mod CollectOk
 pub mod SizeFuel
 pub mod SizesOk
+pub mod SizeSums
 pub mod SizeRounds

@@ -26,71 +26,137 @@ noted-as {i} {j} {at} {w} {v} {p} {q} e h = subst (λ k. Noted k at w p v q) (sy
 -- a row is added at k: it's there, and the others stay
 abbrev pub Put : {A : Type 0} → (ℕ → A) → (ℕ → A) → ℕ → A → Type 0
 Put old new k r = (new k ≡ r) × ((j : ℕ) → (j ≡ k → ⊥) → new j ≡ old j)
+
 -- what holds of rows below k, and of the one at k
 more : {A : Type 0} (P : A → Type 0) (old new : ℕ → A) (k : ℕ) (r : A) → Put old new k r → ((j : ℕ) → j < k → P (old j)) → P r → (j : ℕ) → j < k + 1 → P (new j)
 more P old new k r h b here = below-more (λ j. P (new j)) k (λ j l. subst P (sym (h .1 j (λ e. omega arith))) (b j l)) (subst P (sym (h .0)) here)
+
 under : {A : Type 0} (old new : ℕ → A) (k : ℕ) (r : A) → Put old new k r → (j : ℕ) → j < k → new j ≡ old j
 under old new k r h j l = h .1 j (λ e. omega arith)
 
 pub noted-field : (w : Words) (fs : List ℕ) (p : Progress) (at : ℕ) → Put (λ k. getD (w .fields) k 0) (λ k. getD fs k 0) (p .fields .end) at
-  → Noted Field at w p (record { datas = w .datas; ctors = w .ctors; fields = fs; fns = w .fns; params = w .params }) (with-field p)
+    → Noted Field at w p (record { datas = w .datas; ctors = w .ctors; fields = fs; fns = w .fns; params = w .params }) (with-field p)
 noted-field w fs p at h = record {
   declares = λ n i s t. notes-field s w v p n at i (record { fields = under _ _ _ at h; ctors = λ k l. refl; datas = λ k l. refl; fns = λ k l. refl; params = λ k l. refl }) (h .0) (t .ty);
-  within = λ n i l. record { datas = i .datas; ctors = λ k b. (let e = i .ctors k b in omega arith); fns = i .fns; ctors-open = i .ctors-open; fields-open = (let e = i .fields-open in omega arith); params-open = i .params-open;
-    datas-at = i .datas-at; fields-at = more (λ a. a < n) _ _ _ at h (i .fields-at) l; fns-at = i .fns-at; params-at = i .params-at };
-  rows = omega arith; fields = omega arith }
+  within = λ n i l. record {
+    datas = i .datas;
+    ctors = λ k b. (let e = i .ctors k b in omega arith);
+    fns = i .fns;
+    ctors-open = i .ctors-open;
+    fields-open = (let e = i .fields-open in omega arith);
+    params-open = i .params-open;
+    datas-at = i .datas-at;
+    fields-at = more (λ a. a < n) _ _ _ at h (i .fields-at) l;
+    fns-at = i .fns-at;
+    params-at = i .params-at;
+  };
+  rows = omega arith;
+  fields = omega arith;
+}
   where
     v : Words
     v = record { datas = w .datas; ctors = w .ctors; fields = fs; fns = w .fns; params = w .params }
 
 pub noted-ctor : (w : Words) (cs : List ℕ) (p : Progress) (at : ℕ) (x : Name) → Put (declared-row (w .ctors)) (declared-row cs) (p .ctors .end) (record { name = x; at = at; parts = p .fields })
-  → Noted (Ctor x) at w p (record { datas = w .datas; ctors = cs; fields = w .fields; fns = w .fns; params = w .params }) (with-ctor p)
+    → Noted (Ctor x) at w p (record { datas = w .datas; ctors = cs; fields = w .fields; fns = w .fns; params = w .params }) (with-ctor p)
 noted-ctor w cs p at x h = record {
   declares = λ n i s t. notes-ctor s w v p n at r i (record { fields = λ k l. refl; ctors = under _ _ _ r h; datas = λ k l. refl; fns = λ k l. refl; params = λ k l. refl }) (h .0) refl (t .ty);
-  within = λ n i l. record { datas = λ k b. (let e = i .datas k b in omega arith); ctors = more (λ (r : Declared). r .parts .end ≤ p .fields .end) _ _ _ r h (i .ctors) (omega arith); fns = i .fns; ctors-open = (let e = i .ctors-open in omega arith); fields-open = omega arith; params-open = i .params-open;
-    datas-at = i .datas-at; fields-at = i .fields-at; fns-at = i .fns-at; params-at = i .params-at };
-  rows = omega arith; fields = omega arith }
+  within = λ n i l. record {
+    datas = λ k b. (let e = i .datas k b in omega arith);
+    ctors = more (λ (r : Declared). r .parts .end ≤ p .fields .end) _ _ _ r h (i .ctors) (omega arith);
+    fns = i .fns;
+    ctors-open = (let e = i .ctors-open in omega arith);
+    fields-open = omega arith;
+    params-open = i .params-open;
+    datas-at = i .datas-at;
+    fields-at = i .fields-at;
+    fns-at = i .fns-at;
+    params-at = i .params-at;
+  };
+  rows = omega arith;
+  fields = omega arith;
+}
   where
     v : Words
     v = record { datas = w .datas; ctors = cs; fields = w .fields; fns = w .fns; params = w .params }
+
     r : Declared
     r = record { name = x; at = at; parts = p .fields }
 
 pub noted-data : (w : Words) (ds : List ℕ) (p : Progress) (at : ℕ) (x : Name) (y : Option Name) → Put (declared-row (w .datas)) (declared-row ds) (p .datas) (record { name = x; at = at; parts = p .ctors })
-  → Noted (Data x y) at w p (record { datas = ds; ctors = w .ctors; fields = w .fields; fns = w .fns; params = w .params }) (with-data p)
+    → Noted (Data x y) at w p (record { datas = ds; ctors = w .ctors; fields = w .fields; fns = w .fns; params = w .params }) (with-data p)
 noted-data w ds p at x y h = record {
   declares = λ n i s t. notes-data s w v p n at r _ (t .last) i (record { fields = λ k l. refl; ctors = λ k l. refl; datas = under _ _ _ r h; fns = λ k l. refl; params = λ k l. refl }) (h .0) refl (t .ty);
-  within = λ n i l. record { datas = more (λ (r : Declared). r .parts .end ≤ p .ctors .end) _ _ _ r h (i .datas) (omega arith); ctors = i .ctors; fns = i .fns; ctors-open = omega arith; fields-open = omega arith; params-open = i .params-open;
-    datas-at = more (λ (r : Declared). r .at < n) _ _ _ r h (i .datas-at) l; fields-at = i .fields-at; fns-at = i .fns-at; params-at = i .params-at };
-  rows = omega arith; fields = omega arith }
+  within = λ n i l. record {
+    datas = more (λ (r : Declared). r .parts .end ≤ p .ctors .end) _ _ _ r h (i .datas) (omega arith);
+    ctors = i .ctors;
+    fns = i .fns;
+    ctors-open = omega arith;
+    fields-open = omega arith;
+    params-open = i .params-open;
+    datas-at = more (λ (r : Declared). r .at < n) _ _ _ r h (i .datas-at) l;
+    fields-at = i .fields-at;
+    fns-at = i .fns-at;
+    params-at = i .params-at;
+  };
+  rows = omega arith;
+  fields = omega arith;
+}
   where
     v : Words
     v = record { datas = ds; ctors = w .ctors; fields = w .fields; fns = w .fns; params = w .params }
+
     r : Declared
     r = record { name = x; at = at; parts = p .ctors }
 
 pub noted-param : (w : Words) (qs : List ℕ) (p : Progress) (at : ℕ) (x : Name) → Put (param-row (w .params)) (param-row qs) (p .params .end) (record { name = x; at = at })
-  → Noted (Param x) at w p (record { datas = w .datas; ctors = w .ctors; fields = w .fields; fns = w .fns; params = qs }) (with-param p)
+    → Noted (Param x) at w p (record { datas = w .datas; ctors = w .ctors; fields = w .fields; fns = w .fns; params = qs }) (with-param p)
 noted-param w qs p at x h = record {
   declares = λ n i s t. notes-param s w v p n at r i (record { fields = λ k l. refl; ctors = λ k l. refl; datas = λ k l. refl; fns = λ k l. refl; params = under _ _ _ r h }) (h .0) refl (t .ty);
-  within = λ n i l. record { datas = i .datas; ctors = i .ctors; fns = λ k b. (let e = i .fns k b in omega arith); ctors-open = i .ctors-open; fields-open = i .fields-open; params-open = (let e = i .params-open in omega arith);
-    datas-at = i .datas-at; fields-at = i .fields-at; fns-at = i .fns-at; params-at = more (λ (r : Parameter). r .at < n) _ _ _ r h (i .params-at) l };
-  rows = omega arith; fields = omega arith }
+  within = λ n i l. record {
+    datas = i .datas;
+    ctors = i .ctors;
+    fns = λ k b. (let e = i .fns k b in omega arith);
+    ctors-open = i .ctors-open;
+    fields-open = i .fields-open;
+    params-open = (let e = i .params-open in omega arith);
+    datas-at = i .datas-at;
+    fields-at = i .fields-at;
+    fns-at = i .fns-at;
+    params-at = more (λ (r : Parameter). r .at < n) _ _ _ r h (i .params-at) l;
+  };
+  rows = omega arith;
+  fields = omega arith;
+}
   where
     v : Words
     v = record { datas = w .datas; ctors = w .ctors; fields = w .fields; fns = w .fns; params = qs }
+
     r : Parameter
     r = record { name = x; at = at }
 
 pub noted-fn : (w : Words) (fs : List ℕ) (p : Progress) (at : ℕ) (x : Name) → Put (declared-row (w .fns)) (declared-row fs) (p .fns) (record { name = x; at = at; parts = p .params })
-  → Noted (Fn x) at w p (record { datas = w .datas; ctors = w .ctors; fields = w .fields; fns = fs; params = w .params }) (with-fn p)
+    → Noted (Fn x) at w p (record { datas = w .datas; ctors = w .ctors; fields = w .fields; fns = fs; params = w .params }) (with-fn p)
 noted-fn w fs p at x h = record {
   declares = λ n i s t. notes-fn s w v p n at r i (record { fields = λ k l. refl; ctors = λ k l. refl; datas = λ k l. refl; fns = under _ _ _ r h; params = λ k l. refl }) (h .0) refl refl (t .ty);
-  within = λ n i l. record { datas = i .datas; ctors = i .ctors; fns = more (λ (r : Declared). r .parts .end ≤ p .params .end) _ _ _ r h (i .fns) (omega arith); ctors-open = i .ctors-open; fields-open = i .fields-open; params-open = omega arith;
-    datas-at = i .datas-at; fields-at = i .fields-at; fns-at = more (λ (r : Declared). r .at < n) _ _ _ r h (i .fns-at) l; params-at = i .params-at };
-  rows = omega arith; fields = omega arith }
+  within = λ n i l. record {
+    datas = i .datas;
+    ctors = i .ctors;
+    fns = more (λ (r : Declared). r .parts .end ≤ p .params .end) _ _ _ r h (i .fns) (omega arith);
+    ctors-open = i .ctors-open;
+    fields-open = i .fields-open;
+    params-open = omega arith;
+    datas-at = i .datas-at;
+    fields-at = i .fields-at;
+    fns-at = more (λ (r : Declared). r .at < n) _ _ _ r h (i .fns-at) l;
+    params-at = i .params-at;
+  };
+  rows = omega arith;
+  fields = omega arith;
+}
   where
     v : Words
     v = record { datas = w .datas; ctors = w .ctors; fields = w .fields; fns = fs; params = w .params }
+
     r : Declared
     r = record { name = x; at = at; parts = p .params }

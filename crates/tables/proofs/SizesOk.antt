@@ -25,6 +25,7 @@ known ds s fx w m e =
 -- with this fuel the definition comes to an end, for types of at most that size
 abbrev pub Ends : List Data → Sizes → ℕ → Type 0
 Ends ds s j = (n : ℕ) (t : Ty) (a : ℕ) → size-by s t ≡ some a → a ≤ j → avail s j ds + 1 ≤ n → size n ds t ≡ some a
+
 fields-end : (ds : List Data) (s : Sizes) (j : ℕ) → Ends ds s j → (n : ℕ) (ts : List Ty) (b : ℕ) → fields-by s ts ≡ some b → b ≤ j → avail s j ds + (1 + length ts) ≤ n → size-fields n ds ts ≡ some b
 fields-end ds s j ih zero ts b e h k = absurd (omega arith)
 fields-end ds s j ih (suc n) [] b e h k = e
@@ -33,6 +34,7 @@ fields-end ds s j ih (suc n) (t ∷ ts) b e h k =
     let q = if-inv (fields-by s ts) (λ b. some (p .0 + b)) b (p .2) in
     let z : p .0 + q .0 ≡ b = some-same (q .2) in
     rw (ih n t (p .0) (p .1) (omega arith) (omega arith), fields-end ds s j ih n ts (q .0) (q .1) (omega arith) (omega arith)) (q .2)
+
 ctors-end : (ds : List Data) (s : Sizes) (j : ℕ) → Ends ds s j → (n : ℕ) (ks : List Ctor) (b : ℕ) → ctors-by s ks ≡ some b → b ≤ j → avail s j ds + (1 + length ks + fields-in ks) ≤ n → size-ctors n ds ks ≡ some b
 ctors-end ds s j ih zero ks b e h k = absurd (omega arith)
 ctors-end ds s j ih (suc n) [] b e h k = e
@@ -42,6 +44,7 @@ ctors-end ds s j ih (suc n) (c ∷ ks) b e h k =
     let z : choose (ltb (p .0) (q .0)) (q .0) (p .0) ≡ b = some-same (q .2) in
     let y = larger-le (p .0) (q .0) in
     rw (fields-end ds s j ih n (c .fields) (p .0) (p .1) (omega arith) (omega arith), ctors-end ds s j ih n ks (q .0) (q .1) (omega arith) (omega arith)) (q .2)
+
 pub ends : (ds : List Data) (s : Sizes) → Below s (round ds s) → (j : ℕ) → Ends ds s j
 ends ds s fx j zero t a e h k = absurd (omega arith)
 ends ds s fx j (suc n) int a e h k = e
@@ -63,6 +66,7 @@ ends ds s fx (suc j) (suc n) (dat w) a e h k = at (leb a j) refl (ends ds s fx j
 
 below : (ds : List Data) (s : Sizes) → Fixed ds s → Below s (round ds s)
 below ds s fx w m e = sym (fx w) ∙ e
+
 -- what the definition finds, and is not too large, is in the table
 mutual
   back : (n : ℕ) (ds : List Data) (s : Sizes) → Fixed ds s → (t : Ty) (a : ℕ) → size n ds t ≡ some a → a ≤ 4096 → size-by s t ≡ some a
@@ -72,27 +76,29 @@ mutual
   back (suc n) ds s fx (ref t) a e h = e
   back (suc n) ds s fx (mut t) a e h = e
   back (suc n) ds s fx (dat w) a e h =
-    let p = if-inv (data-named ds w) (λ k. if-some (size-ctors n ds (k .ctors)) (λ m. some (1 + m))) a e in
-    let q = if-inv (size-ctors n ds (p .0 .ctors)) (λ m. some (1 + m)) a (p .2) in
-    let z : 1 + q .0 ≡ a = some-same (q .2) in
-    fx w ∙ rw (p .1, back-ctors n ds s fx (p .0 .ctors) (q .0) (q .1) (omega arith)) (cap-le (1 + q .0) (omega arith) ∙ q .2)
+      let p = if-inv (data-named ds w) (λ k. if-some (size-ctors n ds (k .ctors)) (λ m. some (1 + m))) a e in
+      let q = if-inv (size-ctors n ds (p .0 .ctors)) (λ m. some (1 + m)) a (p .2) in
+      let z : 1 + q .0 ≡ a = some-same (q .2) in
+      fx w ∙ rw (p .1, back-ctors n ds s fx (p .0 .ctors) (q .0) (q .1) (omega arith)) (cap-le (1 + q .0) (omega arith) ∙ q .2)
+
   back-ctors : (n : ℕ) (ds : List Data) (s : Sizes) → Fixed ds s → (ks : List Ctor) (b : ℕ) → size-ctors n ds ks ≡ some b → b ≤ 4096 → ctors-by s ks ≡ some b
   back-ctors zero ds s fx ks b e h = none-some e
   back-ctors (suc n) ds s fx [] b e h = e
   back-ctors (suc n) ds s fx (c ∷ ks) b e h =
-    let p = if-inv (size-fields n ds (c .fields)) (λ a. if-some (size-ctors n ds ks) (λ b. some (choose (ltb a b) b a))) b e in
-    let q = if-inv (size-ctors n ds ks) (λ b. some (choose (ltb (p .0) b) b (p .0))) b (p .2) in
-    let z : choose (ltb (p .0) (q .0)) (q .0) (p .0) ≡ b = some-same (q .2) in
-    let y = larger-le (p .0) (q .0) in
-    rw (back-fields n ds s fx (c .fields) (p .0) (p .1) (omega arith), back-ctors n ds s fx ks (q .0) (q .1) (omega arith)) (q .2)
+      let p = if-inv (size-fields n ds (c .fields)) (λ a. if-some (size-ctors n ds ks) (λ b. some (choose (ltb a b) b a))) b e in
+      let q = if-inv (size-ctors n ds ks) (λ b. some (choose (ltb (p .0) b) b (p .0))) b (p .2) in
+      let z : choose (ltb (p .0) (q .0)) (q .0) (p .0) ≡ b = some-same (q .2) in
+      let y = larger-le (p .0) (q .0) in
+      rw (back-fields n ds s fx (c .fields) (p .0) (p .1) (omega arith), back-ctors n ds s fx ks (q .0) (q .1) (omega arith)) (q .2)
+
   back-fields : (n : ℕ) (ds : List Data) (s : Sizes) → Fixed ds s → (ts : List Ty) (b : ℕ) → size-fields n ds ts ≡ some b → b ≤ 4096 → fields-by s ts ≡ some b
   back-fields zero ds s fx ts b e h = none-some e
   back-fields (suc n) ds s fx [] b e h = e
   back-fields (suc n) ds s fx (t ∷ ts) b e h =
-    let p = if-inv (size n ds t) (λ a. if-some (size-fields n ds ts) (λ b. some (a + b))) b e in
-    let q = if-inv (size-fields n ds ts) (λ b. some (p .0 + b)) b (p .2) in
-    let z : p .0 + q .0 ≡ b = some-same (q .2) in
-    rw (back n ds s fx t (p .0) (p .1) (omega arith), back-fields n ds s fx ts (q .0) (q .1) (omega arith)) (q .2)
+      let p = if-inv (size n ds t) (λ a. if-some (size-fields n ds ts) (λ b. some (a + b))) b e in
+      let q = if-inv (size-fields n ds ts) (λ b. some (p .0 + b)) b (p .2) in
+      let z : p .0 + q .0 ≡ b = some-same (q .2) in
+      rw (back n ds s fx t (p .0) (p .1) (omega arith), back-fields n ds s fx ts (q .0) (q .1) (omega arith)) (q .2)
 
 small : (ds : List Data) (s : Sizes) → Fixed ds s → (t : Ty) (a : ℕ) → size-by s t ≡ some a → a ≤ 4096
 small ds s fx int a e = let z : 1 ≡ a = some-same e in omega arith
@@ -100,11 +106,13 @@ small ds s fx (dat w) a e = known ds s (below ds s fx) w a e .5
 small ds s fx (box t) a e = let z : 1 ≡ a = some-same e in omega arith
 small ds s fx (ref t) a e = let z : 1 ≡ a = some-same e in omega arith
 small ds s fx (mut t) a e = let z : 1 ≡ a = some-same e in omega arith
+
 pub sizes-right : Sizes-right
 sizes-right ds s fx t = at (size-by s t) (size-of ds t) refl refl
   where
     full : (a : ℕ) → size-by s t ≡ some a → size-of ds t ≡ some a
     full a e = let h = at-most s a ds in let k = many-is ds in ends ds s (below ds s fx) a (deep ds) t a e (omega arith) (omega arith)
+
     at : (o u : Option ℕ) → size-by s t ≡ o → size-of ds t ≡ u → o ≡ if-some u cap
     at (some a) u e f = sym (ap (λ (o : Option ℕ). if-some o cap) (sym f ∙ full a e) ∙ cap-le a (small ds s fx t a e))
     at none none e f = refl
@@ -113,6 +121,7 @@ sizes-right ds s fx t = at (size-by s t) (size-of ds t) refl refl
         big : (b : Bool) → leb a 4096 ≡ b → none ≡ only-if b (some a)
         big true q = none-some (sym e ∙ back (deep ds) ds s fx t a f (leb→le a 4096 (is-T q)))
         big false q = refl
+
 -- so what is asked of a data's size is whether the table has it
 pub size-is : (ds : List Data) (s : Sizes) → Fixed ds s → (d : Data) → ok-size ds d ≡ present (s (d .name))
 size-is ds s fx d = at (size-of ds (dat (d .name))) ∙ sym (ap present (sizes-right ds s fx (dat (d .name))))

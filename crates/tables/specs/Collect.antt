@@ -8,6 +8,7 @@ use Rattle.tables.specs.Heads.{Sig}
 pub record Entry : Type 0 where
   pub sig : Sig
   pub code : List Instr
+
 -- what was declared so far; the last type; fields of the constructor under way, constructors of the data, parameters of the function
 pub record Tables : Type 0 where
   pub datas : List Data
@@ -16,11 +17,14 @@ pub record Tables : Type 0 where
   pub fields : List Ty
   pub ctors : List Ctor
   pub params : List Param
+
 abbrev pub with-ty : Tables → Ty → Tables
 with-ty c t = record { datas = c .datas; entries = c .entries; ty = t; fields = c .fields; ctors = c .ctors; params = c .params }
+
 -- with no type under way
 abbrev pub declared : List Data → List Entry → List Ty → List Ctor → List Param → Tables
 declared ds es ts ks ps = record { datas = ds; entries = es; ty = int; fields = ts; ctors = ks; params = ps }
+
 -- an instruction, and the code behind it; what is inside bodies declares nothing
 abbrev pub declare : Instr → List Instr → Tables → Tables
 declare (i-num n) is c = c
@@ -66,8 +70,10 @@ declare (i-ctor c1) is c = declared (c .datas) (c .entries) [] (c .ctors ++ (rec
 declare (i-data d w) is c = declared (c .datas ++ (record { name = d; ctors = c .ctors; last = w } ∷ [])) (c .entries) [] [] (c .params)
 declare (i-param x) is c = declared (c .datas) (c .entries) (c .fields) (c .ctors) (c .params ++ (record { name = x; ty = c .ty } ∷ []))
 declare (i-fn f) is c = declared (c .datas) (c .entries ++ (record { sig = record { name = f; params = c .params; ret = c .ty }; code = is } ∷ [])) (c .fields) (c .ctors) []
+
 abbrev pub collect : List Instr → Tables → Tables
 collect [] c = c
 collect (i ∷ is) c = collect is (declare i is c)
+
 abbrev pub tables-of : List Instr → Tables
 tables-of is = collect is (declared [] [] [] [] [])

@@ -12,4 +12,5 @@ pub mod Collected
 pub mod Lent
 pub mod Tables
 pub mod Sizes
+pub mod Known
 pub mod Rest

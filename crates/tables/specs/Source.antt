@@ -4,23 +4,18 @@ use Prim.Native.Nat.{ℕ, zero, suc, _+_, _-_}
 use Rattle.std.specs.declared.option.Option.{Option}
 use Rattle.std.specs.declared.option.Option.the-variants.{Some, None}
 use Rattle.language.specs.Base.{Lexeme}
-use Rattle.language.specs.Syntax.{Ty, int}
 use Rattle.code.specs.Instr as pure
 use Rattle.code.specs.Means.{means}
 use Rattle.code.specs.Words.{instr-at}
 use Rattle.code.specs.declared.instr.Instr.{Instr}
-use Rattle.tables.specs.Declares.{ty-after, last-of, rows-of}
+use Rattle.types.specs.Types.{written}
+use Rattle.tables.specs.Declares.{last-of, rows-of}
 use Rattle.tables.specs.View.{Source}
 
--- of what a slot holds: in front of code; the type that is under way behind it; the function that it names as called when data is
--- dropped; the rows that it adds
+-- of what a slot holds: in front of code; the function that it names as called when data is dropped; the rows that it adds
 abbrev pub put-before : List ℕ → Option Instr → List pure.Instr → List pure.Instr
 put-before text None is = is
 put-before text (Some i) is = means text i ∷ is
-
-abbrev pub ty-behind : List ℕ → Option Instr → Ty → Ty
-ty-behind text None t = t
-ty-behind text (Some i) t = ty-after (means text i) t
 
 abbrev pub last-in : List ℕ → Option Instr → Lexeme
 last-in text None = []
@@ -35,14 +30,9 @@ abbrev pub instrs-from : List ℕ → List ℕ → ℕ → ℕ → List pure.Ins
 instrs-from text code k zero = []
 instrs-from text code k (suc n) = put-before text (instr-at code k) (instrs-from text code (suc k) n)
 
--- the type that is under way behind the first k slots
-abbrev pub type-behind : List ℕ → List ℕ → ℕ → Ty
-type-behind text code zero = int
-type-behind text code (suc k) = ty-behind text (instr-at code k) (type-behind text code k)
-
 -- code of n slots
 abbrev pub source : List ℕ → List ℕ → ℕ → Source
-source text code n = record { text = text; type-at = type-behind text code; last-at = λ k. last-in text (instr-at code k); code-from = λ k. instrs-from text code k (n - k) }
+source text code n = record { text = text; type-at = written text code; last-at = λ k. last-in text (instr-at code k); code-from = λ k. instrs-from text code k (n - k) }
 
 -- the rows that n slots from the k-th on add
 abbrev pub rows-in : List ℕ → ℕ → ℕ → ℕ

@@ -56,7 +56,8 @@ tables-in s w p at = record {
   ty = s .type-at at;
   fields = all-in (field-at s w) (p .fields);
   ctors = all-in (ctor-at s w) (p .ctors);
-  params = all-in (param-at s w) (p .params) }
+  params = all-in (param-at s w) (p .params);
+}
 
 -- parts of what was declared stand before the end of their tables, and rows point at the first n instructions
 pub record Within (w : Words) (p : Progress) (n : ℕ) : Type 0 where

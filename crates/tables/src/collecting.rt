@@ -8,7 +8,6 @@ ghost use Rattle.tables.specs.Declares.{Noted, NotedSlot};
 ghost use Rattle.tables.specs.Lent.{«words-of», Longer, SameLengths, Roomy};
 ghost use Rattle.tables.specs.Source.{«rows-in»};
 ghost use Rattle.tables.specs.Tables.{«datas-in», «entries-in»};
-
 use crate::progress::Progress;
 use crate::room::Room;
 use crate::row::Row;
@@ -34,12 +33,20 @@ fn note(room: &mut Room, done: Progress, at: usize, instr: Instr) -> Progress
             next.fields.end += 1;
         }
         Instr::Ctor(name) => {
-            Declared { name, at, parts: done.fields }.store(room.ctors, done.ctors.end);
+            Declared {
+                name,
+                at,
+                parts: done.fields,
+            }.store(room.ctors, done.ctors.end);
             next.ctors.end += 1;
             next.fields.first = done.fields.end;
         }
         Instr::Data(name, _) => {
-            Declared { name, at, parts: done.ctors }.store(room.datas, done.datas);
+            Declared {
+                name,
+                at,
+                parts: done.ctors,
+            }.store(room.datas, done.datas);
             next.datas += 1;
             next.ctors.first = done.ctors.end;
             next.fields.first = done.fields.end;
@@ -49,15 +56,43 @@ fn note(room: &mut Room, done: Progress, at: usize, instr: Instr) -> Progress
             next.params.end += 1;
         }
         Instr::Fn(name) => {
-            Declared { name, at, parts: done.params }.store(room.fns, done.fns);
+            Declared {
+                name,
+                at,
+                parts: done.params,
+            }.store(room.fns, done.fns);
             next.fns += 1;
             next.params.first = done.params.end;
         }
-        Instr::Num(_) | Instr::Var(_) | Instr::Int | Instr::Op(_) | Instr::Make(_) | Instr::Call(_) | Instr::Arg | Instr::Apply => {}
+        Instr::Num(_)
+        | Instr::Var(_)
+        | Instr::Int
+        | Instr::Op(_)
+        | Instr::Make(_)
+        | Instr::Call(_)
+        | Instr::Arg
+        | Instr::Apply => {}
         Instr::Box | Instr::Share(_) | Instr::Lend(_) | Instr::Load(_) | Instr::Get => {}
-        Instr::Bind(_) | Instr::Assign(_) | Instr::Store(_) | Instr::Put | Instr::If | Instr::Else | Instr::EndIf => {}
-        Instr::While | Instr::Do | Instr::EndWhile | Instr::Match(_, _) | Instr::Arm(_) | Instr::Part(_) | Instr::Body => {}
-        Instr::EndArm | Instr::EndMatch | Instr::Open(_, _) | Instr::Inside(_, _) | Instr::Give | Instr::EndFn => {}
+        Instr::Bind(_)
+        | Instr::Assign(_)
+        | Instr::Store(_)
+        | Instr::Put
+        | Instr::If
+        | Instr::Else
+        | Instr::EndIf => {}
+        Instr::While
+        | Instr::Do
+        | Instr::EndWhile
+        | Instr::Match(_, _)
+        | Instr::Arm(_)
+        | Instr::Part(_)
+        | Instr::Body => {}
+        Instr::EndArm
+        | Instr::EndMatch
+        | Instr::Open(_, _)
+        | Instr::Inside(_, _)
+        | Instr::Give
+        | Instr::EndFn => {}
         Instr::TyInt | Instr::TyData(_) | Instr::TyBox | Instr::TyRef | Instr::TyMut => {}
     }
     next
@@ -98,6 +133,22 @@ pub fn collect<'a>(text: &'a [u8], code: &'a [u64], size: usize, mut room: Room<
     ensures entries { λ r. ⌜ «entries-in» r ≡ «tables-of» («code-in» (now (text .entry)) (now (code .entry)) size) .entries ⌝ }
 {
     let done = note_all(code, size, &mut room);
-    let Room { datas, ctors, fields, fns, params } = room;
-    Tables { text, code, size, done, datas, ctors, fields, fns, params }
+    let Room {
+        datas,
+        ctors,
+        fields,
+        fns,
+        params,
+    } = room;
+    Tables {
+        text,
+        code,
+        size,
+        done,
+        datas,
+        ctors,
+        fields,
+        fns,
+        params,
+    }
 }

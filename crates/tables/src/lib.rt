@@ -4,11 +4,14 @@ ghost use Rattle.tables.specs.Sizes.{«Sizes-right»};
 
 mod collecting;
 mod ids;
+mod lookup;
+mod measure;
 mod progress;
 mod room;
 mod row;
 mod rows;
 mod span;
+mod table;
 mod tables;
 
 pub use collecting::collect;
@@ -24,6 +27,7 @@ pub use rows::DeclaredRow;
 pub use rows::Parameter;
 pub use rows::ParameterRow;
 pub use span::Span;
+pub use table::find;
 pub use tables::Tables;
 
 // A table of sizes that one more round leaves as it is has the definition's sizes.

@@ -1,4 +1,3 @@
-
 use crate::span::Span;
 
 // How far the collecting is: how many data types and functions there are; the constructors of the data under way, the fields of the

@@ -3,7 +3,6 @@ ghost use mathlib.Core.Path.{_≡_};
 ghost use mathlib.Core.List.{List};
 ghost use lib.ListN.{length};
 ghost use Rattle.lexer.specs.declared.name.Name.{Name as Spelled};
-
 use lexer::Name;
 
 // A kind of row of a table in lent words: so many words to a row, and what they keep.

@@ -2,7 +2,6 @@ ghost use Prim.Native.Nat.{_+_, _*_};
 ghost use mathlib.Core.Path.{_≡_};
 ghost use lib.ListN.{getD};
 ghost use Rattle.tables.specs.Rows.{«declared-row», «param-row»};
-
 use crate::row::Row;
 use crate::span::Span;
 use lexer::Name;
@@ -36,8 +35,15 @@ pub impl Row for Declared as DeclaredRow {
 
     fn load(words: &[u64], number: usize) -> Declared {
         let i = 4 * number;
-        let parts = Span { first: words[i + 2] as usize, end: words[i + 3] as usize };
-        Declared { name: Name(words[i] as usize), at: words[i + 1] as usize, parts }
+        let parts = Span {
+            first: words[i + 2] as usize,
+            end: words[i + 3] as usize,
+        };
+        Declared {
+            name: Name(words[i] as usize),
+            at: words[i + 1] as usize,
+            parts,
+        }
     }
 
     fn store(self, words: &mut [u64], number: usize) {
@@ -62,7 +68,10 @@ pub impl Row for Parameter as ParameterRow {
 
     fn load(words: &[u64], number: usize) -> Parameter {
         let i = 2 * number;
-        Parameter { name: Name(words[i] as usize), at: words[i + 1] as usize }
+        Parameter {
+            name: Name(words[i] as usize),
+            at: words[i + 1] as usize,
+        }
     }
 
     fn store(self, words: &mut [u64], number: usize) {

@@ -2,7 +2,6 @@ ghost use Prim.Native.Nat.{_*_, _≤_};
 ghost use lib.ListN.{length};
 ghost use denote.Ref.{now as behind};
 ghost use Rattle.tables.specs.Fit.{Parts, Places, FieldPlaces, ParamPlaces};
-
 use crate::progress::Progress;
 
 // The declarations of a program, in words that were lent: with the text and the code, of so many instructions, that rows point at.
