@@ -10,3 +10,5 @@ pub mod SizeFuel
 pub mod SizesOk
 pub mod SizeSums
 pub mod SizeRounds
+pub mod Settle
+pub mod Once

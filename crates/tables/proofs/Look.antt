@@ -14,7 +14,7 @@ use Rattle.tables.specs.Heads.{Sig, sig-named}
 use Rattle.tables.proofs.Index.{each-step, first-under, from-zero}
 
 -- the first of that name, from its number
-data-first : (f : ℕ → Data) (w : Lexeme) (i n : ℕ) → data-named (each-from f i n) w ≡ if-some (first-from (λ k. same (f k .name) w) i n) (λ k. some (f k))
+pub data-first : (f : ℕ → Data) (w : Lexeme) (i n : ℕ) → data-named (each-from f i n) w ≡ if-some (first-from (λ k. same (f k .name) w) i n) (λ k. some (f k))
 data-first f w i zero = refl
 data-first f w i (suc n) = at (same (f i .name) w) (data-first f w (suc i) n)
   where

@@ -1,7 +1,7 @@
 -- What a row added to one of the tables makes of all of them.
 use mathlib.Core.Path.{_≡_, refl, sym, ap, ap₂, _∙_, subst}
 use mathlib.Core.List.{List}
-use Prim.Native.Nat.{ℕ, _+_, _<_, _≤_}
+use Prim.Native.Nat.{ℕ, zero, suc, _+_, _<_, _≤_}
 use native.Mathlib.Omega.{arith}
 use borrow.Author.Count.{below-more}
 use lib.ListN.{getD}
@@ -13,7 +13,7 @@ use Rattle.tables.specs.declared.span.Span.{Span}
 use Rattle.tables.specs.declared.rows.Declared.{Declared}
 use Rattle.tables.specs.declared.rows.Parameter.{Parameter}
 use Rattle.tables.specs.declared.progress.Progress.{Progress}
-use Rattle.tables.specs.Rows.{declared-row, param-row}
+use Rattle.tables.specs.Rows.{declared-row, param-row, end-before}
 use Rattle.tables.specs.Steps.{with-field, with-ctor, with-data, with-param, with-fn}
 use Rattle.tables.specs.View.{Words, Within}
 use Rattle.tables.specs.Declares.{Noted}
@@ -45,6 +45,9 @@ noted-field w fs p at h = record {
     ctors-open = i .ctors-open;
     fields-open = (let e = i .fields-open in omega arith);
     params-open = i .params-open;
+    joined = i .joined;
+    ordered = i .ordered;
+    next = i .next;
     datas-at = i .datas-at;
     fields-at = more (λ a. a < n) _ _ _ at h (i .fields-at) l;
     fns-at = i .fns-at;
@@ -68,6 +71,9 @@ noted-ctor w cs p at x h = record {
     ctors-open = (let e = i .ctors-open in omega arith);
     fields-open = omega arith;
     params-open = i .params-open;
+    joined = i .joined;
+    ordered = i .ordered;
+    next = i .next;
     datas-at = i .datas-at;
     fields-at = i .fields-at;
     fns-at = i .fns-at;
@@ -94,6 +100,9 @@ noted-data w ds p at x y h = record {
     ctors-open = omega arith;
     fields-open = omega arith;
     params-open = i .params-open;
+    joined = below-more (λ k. declared-row ds k .parts .first ≡ end-before ds k) (p .datas) (λ k b. ap (λ (r : Declared). r .parts .first) (under _ _ _ r h k b) ∙ i .joined k b ∙ sym (ends k (omega arith))) (ap (λ (r : Declared). r .parts .first) (h .0) ∙ i .next ∙ sym (ends (p .datas) (omega arith)));
+    ordered = more (λ (r : Declared). r .parts .first ≤ r .parts .end) _ _ _ r h (i .ordered) (i .ctors-open);
+    next = last;
     datas-at = more (λ (r : Declared). r .at < n) _ _ _ r h (i .datas-at) l;
     fields-at = i .fields-at;
     fns-at = i .fns-at;
@@ -109,6 +118,13 @@ noted-data w ds p at x y h = record {
     r : Declared
     r = record { name = x; at = at; parts = p .ctors }
 
+    ends : (k : ℕ) → k ≤ p .datas → end-before ds k ≡ end-before (w .datas) k
+    ends zero b = refl
+    ends (suc k) b = ap (λ (r : Declared). r .parts .end) (under _ _ _ r h k (omega arith))
+
+    last : p .ctors .end ≡ end-before ds (p .datas + 1)
+    last = let e : p .datas + 1 ≡ suc (p .datas) = omega arith in sym (ap (end-before ds) e ∙ ap (λ (r : Declared). r .parts .end) (h .0))
+
 pub noted-param : (w : Words) (qs : List ℕ) (p : Progress) (at : ℕ) (x : Name) → Put (param-row (w .params)) (param-row qs) (p .params .end) (record { name = x; at = at })
     → Noted (Param x) at w p (record { datas = w .datas; ctors = w .ctors; fields = w .fields; fns = w .fns; params = qs }) (with-param p)
 noted-param w qs p at x h = record {
@@ -120,6 +136,9 @@ noted-param w qs p at x h = record {
     ctors-open = i .ctors-open;
     fields-open = i .fields-open;
     params-open = (let e = i .params-open in omega arith);
+    joined = i .joined;
+    ordered = i .ordered;
+    next = i .next;
     datas-at = i .datas-at;
     fields-at = i .fields-at;
     fns-at = i .fns-at;
@@ -146,6 +165,9 @@ noted-fn w fs p at x h = record {
     ctors-open = i .ctors-open;
     fields-open = i .fields-open;
     params-open = omega arith;
+    joined = i .joined;
+    ordered = i .ordered;
+    next = i .next;
     datas-at = i .datas-at;
     fields-at = i .fields-at;
     fns-at = more (λ (r : Declared). r .at < n) _ _ _ r h (i .fns-at) l;

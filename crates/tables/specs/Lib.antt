@@ -13,4 +13,5 @@ pub mod Lent
 pub mod Tables
 pub mod Sizes
 pub mod Known
+pub mod Settled
 pub mod Rest

@@ -1,6 +1,6 @@
 -- What the words of a table's rows stand for.
 use mathlib.Core.List.{List}
-use Prim.Native.Nat.{ℕ, _+_, _*_}
+use Prim.Native.Nat.{ℕ, zero, suc, _+_, _*_}
 use lib.ListN.{getD}
 use Rattle.tables.specs.declared.rows.Declared.{Declared}
 use Rattle.tables.specs.declared.rows.Parameter.{Parameter}
@@ -10,3 +10,8 @@ declared-row ws k = record { name = record { 0 = getD ws (4 * k) 0 }; at = getD 
 
 abbrev pub param-row : List ℕ → ℕ → Parameter
 param-row ws k = record { name = record { 0 = getD ws (2 * k) 0 }; at = getD ws (2 * k + 1) 0 }
+
+-- where the parts of the rows before the k-th end
+abbrev pub end-before : List ℕ → ℕ → ℕ
+end-before ws zero = 0
+end-before ws (suc k) = declared-row ws k .parts .end

@@ -1,4 +1,5 @@
 -- What the words of the tables stand for.
+use mathlib.Core.Path.{_≡_}
 use mathlib.Core.List.{List}
 use Prim.Native.Nat.{ℕ, _+_, _≤_, _<_}
 use lib.ListN.{getD}
@@ -9,7 +10,7 @@ use Rattle.lexer.specs.Spelling.{spelling}
 use Rattle.tables.specs.declared.span.Span.{Span}
 use Rattle.tables.specs.declared.progress.Progress.{Progress}
 use Rattle.tables.specs.Index.{each-from, all-in}
-use Rattle.tables.specs.Rows.{declared-row, param-row}
+use Rattle.tables.specs.Rows.{declared-row, param-row, end-before}
 use Rattle.tables.specs.Heads.{Sig}
 use Rattle.tables.specs.Collect.{Entry, Tables}
 
@@ -67,6 +68,9 @@ pub record Within (w : Words) (p : Progress) (n : ℕ) : Type 0 where
   pub ctors-open : p .ctors .first ≤ p .ctors .end
   pub fields-open : p .fields .first ≤ p .fields .end
   pub params-open : p .params .first ≤ p .params .end
+  pub joined : (k : ℕ) → k < p .datas → declared-row (w .datas) k .parts .first ≡ end-before (w .datas) k
+  pub ordered : (k : ℕ) → k < p .datas → declared-row (w .datas) k .parts .first ≤ declared-row (w .datas) k .parts .end
+  pub next : p .ctors .first ≡ end-before (w .datas) (p .datas)
   pub datas-at : (k : ℕ) → k < p .datas → declared-row (w .datas) k .at < n
   pub fields-at : (k : ℕ) → k < p .fields .end → getD (w .fields) k 0 < n
   pub fns-at : (k : ℕ) → k < p .fns → declared-row (w .fns) k .at < n

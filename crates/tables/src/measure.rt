@@ -99,7 +99,7 @@ fn ctors_size(tables: Tables, sizes: &[u64], ctors: Span) -> Option<u64>
 }
 
 // The size of a data type, from those that are known, if it isn't too large.
-fn data_size(tables: Tables, sizes: &[u64], data: DataId) -> Option<u64>
+pub fn data_size(tables: Tables, sizes: &[u64], data: DataId) -> Option<u64>
     requires { ⌜ tables .done .datas ≤ length (now sizes) ⌝ ∗ ⌜ «data» .0 < tables .done .datas ⌝ }
     ensures { λ r. ⌜ Says («data-by» («sizes-in» (tables .entry) (now (sizes .entry))) («the-data» (tables .entry) («data» .0))) r ⌝ }
 {

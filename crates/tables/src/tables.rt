@@ -1,7 +1,7 @@
 ghost use Prim.Native.Nat.{_*_, _≤_};
 ghost use lib.ListN.{length};
 ghost use denote.Ref.{now as behind};
-ghost use Rattle.tables.specs.Fit.{Parts, Places, FieldPlaces, ParamPlaces};
+ghost use Rattle.tables.specs.Fit.{Parts, Places, FieldPlaces, ParamPlaces, Joined, Ordered, EndsAt};
 use crate::progress::Progress;
 
 // The declarations of a program, in words that were lent: with the text and the code, of so many instructions, that rows point at.
@@ -25,6 +25,10 @@ pub struct Tables<'a> {
     ghost data_parts: { Parts (behind datas) (done .datas) (done .ctors .end) },
     ghost ctor_parts: { Parts (behind ctors) (done .ctors .end) (done .fields .end) },
     ghost fn_parts: { Parts (behind fns) (done .fns) (done .params .end) },
+    ghost data_joined: { Joined (behind datas) (done .datas) },
+    ghost data_ordered: { Ordered (behind datas) (done .datas) },
+    ghost data_end: { EndsAt (behind datas) (done .datas) (done .ctors .first) },
+    ghost ctors_open: { done .ctors .first ≤ done .ctors .end },
     ghost data_places: { Places (behind datas) (done .datas) size },
     ghost field_places: { FieldPlaces (behind fields) (done .fields .end) size },
     ghost fn_places: { Places (behind fns) (done .fns) size },
