@@ -12,3 +12,5 @@ pub mod SizeSums
 pub mod SizeRounds
 pub mod Settle
 pub mod Once
+pub mod EachOf
+pub mod LastFn

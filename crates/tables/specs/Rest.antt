@@ -5,12 +5,16 @@ use lib.ListN.{length}
 use lib.Dec.{eqb, leb}
 use Rattle.language.specs.Base.{choose, from-option, each-of, Lexeme, no-twice}
 use Rattle.language.specs.Syntax.{Ty, int, dat, mut, Data}
-use Rattle.language.specs.Checks.{same-ty, types-of-pars, well-made, size-of, ok-ctor, names-of-pars, names-of-datas, every-ctor-name, w-main, is-last}
+use Rattle.language.specs.Checks.{same-ty, types-of-pars, owned, well-made, size-of, ok-ctor, names-of-pars, names-of-datas, every-ctor-name, w-main, is-last}
 use Rattle.tables.specs.Heads.{Sig, sig-named, names-of-sigs}
 
 -- a function's head: no parameter twice, and types that exist
 abbrev pub ok-head : List Data → Sig → Bool
 ok-head ds s = no-twice (names-of-pars (s .params)) && each-of (well-made ds) (s .ret ∷ types-of-pars (s .params))
+
+-- a field's type: owned, and it exists
+abbrev pub ok-field : List Data → Ty → Bool
+ok-field ds t = owned t && well-made ds t
 
 -- the function that is called when one is dropped, if there is one
 abbrev pub ok-drop : List Sig → Data → Bool

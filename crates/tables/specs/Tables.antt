@@ -4,7 +4,7 @@ use mathlib.Core.List.{List}
 use mathlib.Core.Option.{Option as Maybe, some, none}
 use Prim.Native.Nat.{ℕ, _<_}
 use Rattle.language.specs.Base.{Lexeme, same}
-use Rattle.language.specs.Syntax.{Ctor, Data}
+use Rattle.language.specs.Syntax.{Ty, Ctor, Data}
 use Rattle.language.specs.Checks.{data-named, ctor-named, home-of}
 use Rattle.lexer.specs.declared.name.Name.{Name}
 use Rattle.lexer.specs.Spelling.{spelling}
@@ -14,6 +14,8 @@ use Rattle.tables.specs.declared.ids.DataId.{DataId}
 use Rattle.tables.specs.declared.ids.CtorId.{CtorId}
 use Rattle.tables.specs.declared.ids.FnId.{FnId}
 use Rattle.tables.specs.declared.ids.Owner.{Owner}
+use Rattle.types.specs.declared.ty.ValueType.{ValueType}
+use Rattle.types.specs.Types.{type-of}
 use Rattle.tables.specs.declared.tables.Tables.{Tables}
 use Rattle.tables.specs.Index.{each-from, first-from}
 use Rattle.tables.specs.View.{Words, Source, ctor-at, data-at, sig-at, entry-at}
@@ -48,6 +50,10 @@ the-sig t = sig-at (source-of t) (words-in t)
 
 abbrev pub spelled : Tables → Name → Lexeme
 spelled t name = spelling (t .text .now) name
+
+-- what a type stands for
+abbrev pub type-in : Tables → ValueType → Ty
+type-in t ty = type-of (t .text .now) (t .code .now) ty
 
 -- the number of the first data type of that name
 abbrev pub data-number : Tables → Lexeme → Maybe ℕ

@@ -3,9 +3,12 @@
 ghost use Rattle.tables.specs.Sizes.{«Sizes-right»};
 
 mod collecting;
+mod fault;
+mod heads;
 mod ids;
 mod lookup;
 mod measure;
+mod parts;
 mod progress;
 mod repeated;
 mod room;
@@ -15,8 +18,10 @@ mod sizes;
 mod span;
 mod table;
 mod tables;
+mod well;
 
 pub use collecting::collect;
+pub use fault::Fault;
 pub use ids::CtorId;
 pub use ids::DataId;
 pub use ids::FnId;
