@@ -8,7 +8,7 @@ use lib.ListN.{length}
 use Rattle.language.specs.Base.{each-of}
 use Rattle.tables.specs.declared.span.Span.{Span}
 use Rattle.tables.specs.Index.{each-from, all-in}
-use lib.Dec.{leb, leb→le, le→leb}
+use lib.Dec.{eqb, eqb→eq, leb, leb→le, le→leb}
 use Rattle.tables.proofs.Index.{each-step}
 use Rattle.tables.proofs.SizeFuel.{is-true, is-T}
 
@@ -43,4 +43,15 @@ few-no f s b h = ap (λ n. leb n 8 && b) (all-long f s) ∙ ap (λ c. c && b) (a
   where
     at : (c : Bool) → leb (s .end - s .first) 8 ≡ c → c ≡ false
     at true e = let k = leb→le (s .end - s .first) 8 (is-T e) in absurd (omega arith)
+    at false e = refl
+
+-- none, and what else is asked
+pub none-yes : {A : Type 0} (f : ℕ → A) (s : Span) (b : Bool) → s .end - s .first ≡ 0 → (eqb (length (all-in f s)) 0 && b) ≡ b
+none-yes f s b h = ap (λ n. eqb n 0 && b) (all-long f s ∙ h)
+
+pub none-no : {A : Type 0} (f : ℕ → A) (s : Span) (b : Bool) → (s .end - s .first ≡ 0 → ⊥) → (eqb (length (all-in f s)) 0 && b) ≡ false
+none-no f s b h = ap (λ n. eqb n 0 && b) (all-long f s) ∙ ap (λ c. c && b) (at (eqb (s .end - s .first) 0) refl)
+  where
+    at : (c : Bool) → eqb (s .end - s .first) 0 ≡ c → c ≡ false
+    at true e = absurd (h (eqb→eq (s .end - s .first) 0 (is-T e)))
     at false e = refl

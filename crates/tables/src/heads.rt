@@ -1,6 +1,9 @@
 ghost use Prim.Native.Nat.{_<_};
 ghost use mathlib.Core.List.{List};
 ghost use mathlib.Core.Path.{_≡_};
+ghost use mathlib.Core.Bool.{_&&_};
+ghost use lib.ListN.{length};
+ghost use lib.Dec.{eqb};
 ghost use Prim.Native.Nat.{ℕ};
 ghost use Rattle.language.specs.Syntax.{int, dat, mut};
 ghost use Rattle.language.specs.Checks.{«same-ty», «is-last», «types-of-pars»};
@@ -9,7 +12,7 @@ ghost use Rattle.code.specs.Words.{«instr-at»};
 ghost use Rattle.types.specs.Types.{written};
 ghost use Rattle.tables.specs.Declares.{«last-of»};
 ghost use Rattle.tables.specs.Source.{«last-in»};
-ghost use Rattle.tables.specs.Rest.{«ok-drop»};
+ghost use Rattle.tables.specs.Rest.{«ok-drop», «ok-main»};
 ghost use Rattle.tables.specs.Tables.{«sigs-in», «the-data», «the-sig», spelled};
 use crate::ids::DataId;
 use crate::ids::FnId;
@@ -19,7 +22,9 @@ use crate::rows::Declared;
 use crate::rows::DeclaredRow;
 use crate::rows::Parameter;
 use crate::rows::ParameterRow;
+use crate::span::Span;
 use crate::tables::Tables;
+use crate::word::find_word;
 use code::Instr;
 use code::decode;
 use lexer::Name;
@@ -136,5 +141,32 @@ impl Tables<'_> {
             Some(f) => self.is_last(f, row.name),
             None => false,
         }
+    }
+}
+
+impl Tables<'_> {
+    // Whether there is a function main that takes nothing and gives an int.
+    pub fn main_ok(self) -> bool
+        ensures { λ r. ⌜ r ≡ «ok-main» («sigs-in» (self .entry)) ⌝ }
+    {
+        let fns = Span {
+            first: 0,
+            end: self.done.fns,
+        };
+        match find_word::<Declared>(self.text, self.fns, fns, b"main") {
+            Some(number) => self.is_main(FnId(number)),
+            None => false,
+        }
+    }
+
+    fn is_main(self, main: FnId) -> bool
+        requires { ⌜ main .0 < self .done .fns ⌝ }
+        ensures { λ r. ⌜ r ≡ (eqb (length («the-sig» (self .entry) (main .0) .params)) 0 && «same-ty» («the-sig» (self .entry) (main .0) .ret) int) ⌝ }
+    {
+        let row = Declared::load(self.fns, main.0);
+        if row.parts.count() != 0 {
+            return false;
+        }
+        self.is_int(row.at)
     }
 }

@@ -19,6 +19,7 @@ mod span;
 mod table;
 mod tables;
 mod well;
+mod word;
 
 pub use collecting::collect;
 pub use fault::Fault;
@@ -38,6 +39,7 @@ pub use sizes::measure_all;
 pub use span::Span;
 pub use table::find;
 pub use tables::Tables;
+pub use word::find_word;
 
 // A table of sizes that one more round leaves as it is has the definition's sizes.
 pub fn sizes_right() -> u8
