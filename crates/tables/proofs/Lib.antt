@@ -14,3 +14,4 @@ pub mod Settle
 pub mod Once
 pub mod EachOf
 pub mod LastFn
+pub mod RestNames

@@ -27,7 +27,7 @@ same-sym (a ∷ x) [] = refl
 same-sym (a ∷ x) (b ∷ y) = ap₂ _&&_ (eqb-sym a b) (same-sym x y)
 
 -- a name that is in: the first of that name is found
-in-first : (f : ℕ → Lexeme) (x : Lexeme) (i n : ℕ) → is-in x (each-from f i n) ≡ present (first-from (λ k. same (f k) x) i n)
+pub in-first : (f : ℕ → Lexeme) (x : Lexeme) (i n : ℕ) → is-in x (each-from f i n) ≡ present (first-from (λ k. same (f k) x) i n)
 in-first f x i zero = refl
 in-first f x i (suc n) = ap (λ b. b || is-in x (each-from f (suc i) n)) (same-sym x (f i)) ∙ at (same (f i) x) (in-first f x (suc i) n)
   where

@@ -15,3 +15,4 @@ pub mod Sizes
 pub mod Known
 pub mod Settled
 pub mod Rest
+pub mod Asked

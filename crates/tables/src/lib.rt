@@ -11,6 +11,7 @@ mod measure;
 mod parts;
 mod progress;
 mod repeated;
+mod rest;
 mod room;
 mod row;
 mod rows;
