@@ -1,0 +1,5 @@
+pub mod Tests
+pub mod LogWords
+pub mod JoinWords
+pub mod LoanWords
+pub mod SlotWords

@@ -1,0 +1,3 @@
+pub mod Log
+pub mod Loans
+pub mod Slots

@@ -1,0 +1,4 @@
+pub mod loans;
+pub mod log;
+pub mod names;
+mod words;

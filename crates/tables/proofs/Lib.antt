@@ -1,0 +1,17 @@
+pub mod Index
+pub mod Look
+pub mod RowWords
+pub mod Frame
+pub mod Declares
+pub mod Noted
+pub mod CollectLoop
+pub mod CollectOk
+pub mod SizeFuel
+pub mod SizesOk
+pub mod SizeSums
+pub mod SizeRounds
+pub mod Settle
+pub mod Once
+pub mod EachOf
+pub mod LastFn
+pub mod RestNames

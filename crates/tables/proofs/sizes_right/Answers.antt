@@ -1,0 +1,6 @@
+use borrow.Author.Needs.{needs}
+use Rattle.tables.proofs.sizes_right.Needs as need
+use Rattle.tables.proofs.SizesOk.{sizes-right}
+
+pub returns : need.returns
+returns c = sizes-right

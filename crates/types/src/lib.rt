@@ -1,0 +1,17 @@
+// Types: plain values, that name what stands in the code. Nothing is kept for them, and the code isn't changed.
+
+mod role;
+mod same;
+mod layer;
+mod spelled;
+mod ty;
+
+pub use same::Compared;
+pub use same::same_type;
+pub use layer::is_owned;
+pub use layer::shape;
+pub use spelled::same_name;
+pub use ty::Base;
+pub use ty::Outer;
+pub use ty::Shape;
+pub use ty::ValueType;
