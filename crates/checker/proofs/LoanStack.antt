@@ -8,6 +8,7 @@ use lib.Dec.{eqb}
 use Rattle.language.specs.Base.{choose, some-of}
 use Rattle.language.specs.Checks.{Loan}
 use Rattle.checker.proofs.Loans.{some-of-++}
+use Rattle.scope.specs.Loans.{Ent, leaf, via, leaves}
 
 -- of the oldest, place 0
 abbrev pub at : List (List Loan) → ℕ → List Loan

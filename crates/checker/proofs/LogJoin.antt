@@ -10,7 +10,7 @@ use Rattle.language.specs.Base.{choose}
 use Rattle.language.specs.Checks.{Env, both}
 use Rattle.checker.specs.Exec.{join}
 use Rattle.checker.proofs.Keeps.{Name}
-use Rattle.scope.specs.Log.{Log, gone-at, find}
+use Rattle.scope.specs.Log.{Log, gone-at, find, gone-in, rewrite, segments, joined}
 use Rattle.checker.proofs.ScopeLog.{env-of, env-same, touched, touched-++, find-++, apart, has-all, both-has}
 
 -- no more entries than the arms have

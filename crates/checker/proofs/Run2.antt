@@ -11,14 +11,12 @@ use Rattle.code.specs.Instr.{Instr}
 use Rattle.checker.specs.Heads.{Sig}
 use Rattle.checker.specs.Frames.{Ctx, at-rest}
 use Rattle.checker.specs.Exec.{exec, is-end, exec-all}
-use Rattle.checker.proofs.Collect.{Entry}
-use Rattle.checker.proofs.Verdict.{ctx-of, ok-head, ok-body, ok-entry}
 use Rattle.checker.proofs.Options.{Each}
 use Rattle.checker.proofs.ScopeLog.{not-in, same-sym}
 use Rattle.scope.specs.Slots.{Slot, slot-of}
 use Rattle.checker.proofs.Slots.{as-names, env2}
 use Rattle.checker.specs.Marks.{State2, rest}
-use Rattle.checker.specs.Machine.{exec2}
+use Rattle.checker.specs.Machine.{exec2, exec2-all, par-slots, start}
 use Rattle.checker.proofs.Abstract.{Inv, Scoped, abs, agree-same, agree-inv}
 use Rattle.checker.proofs.Step.{step-ok}
 
@@ -35,7 +33,7 @@ run2 p (i ∷ is) s h = go (is-end i) (λ t k. run2 p is t k)
     go true r = refl
     go false r = ap (λ o. present (if-some o (λ t. exec-all p is t))) (agree-same _ _ (step-ok p i s h)) ∙ on (exec2 p i s) (agree-inv _ _ (step-ok p i s h)) r
 
-pars-are : (qs : List Param) (vs : List Slot) → env2 (par-slots qs vs) [] ≡ pars-env qs (env2 vs [])
+pub pars-are : (qs : List Param) (vs : List Slot) → env2 (par-slots qs vs) [] ≡ pars-env qs (env2 vs [])
 pars-are [] vs = refl
 pars-are (q ∷ qs) vs = pars-are qs (slot-of (q .name) (q .ty) [] ∷ vs)
 abbrev New : List Param → List Slot → Type 0
@@ -58,23 +56,8 @@ none-old [] = tt
 none-old (q ∷ qs) = (tt, none-old qs)
 nil : (vs : List Slot) → vs ++ [] ≡ vs
 nil vs = append-nil vs
-start-inv : (qs : List Param) → no-twice (names-of-pars qs) ≡ true → Inv (start qs)
+pub start-inv : (qs : List Param) → no-twice (names-of-pars qs) ≡ true → Inv (start qs)
 start-inv qs h = (subst Scoped (sym (nil (par-slots qs []))) (pars-scoped qs [] h (none-old qs) (tt, tt)), (tt, tt))
-start-is : (qs : List Param) → abs (start qs) ≡ at-rest (pars-env qs []) []
+pub start-is : (qs : List Param) → abs (start qs) ≡ at-rest (pars-env qs []) []
 start-is qs = ap (λ vs. at-rest (env2 vs []) []) (nil (par-slots qs [])) ∙ ap (λ g. at-rest g []) (pars-are qs [])
 
--- one function of a program
-abbrev pub ok-body2 : List Data → List Sig → Entry → Bool
-ok-body2 ds ss e = present (exec2-all (ctx-of ds ss (e .sig)) (e .code) (start (e .sig .params)))
-abbrev pub ok-entry2 : List Data → List Sig → Entry → Bool
-ok-entry2 ds ss e = ok-head ds (e .sig) && ok-body2 ds ss e
-pub entry2-is : (ds : List Data) (ss : List Sig) (e : Entry) → ok-entry ds ss e ≡ ok-entry2 ds ss e
-entry2-is ds ss e = go (no-twice (names-of-pars (e .sig .params))) refl
-  where
-    body : no-twice (names-of-pars (e .sig .params)) ≡ true → ok-body ds ss e ≡ ok-body2 ds ss e
-    body h = ap (λ s. present (exec-all (ctx-of ds ss (e .sig)) (e .code) s)) (sym (start-is (e .sig .params))) ∙ run2 (ctx-of ds ss (e .sig)) (e .code) (start (e .sig .params)) (start-inv (e .sig .params) h)
-    types : Bool
-    types = each-of (well-made ds) (e .sig .ret ∷ types-of-pars (e .sig .params))
-    go : (c : Bool) → no-twice (names-of-pars (e .sig .params)) ≡ c → ((c && types) && ok-body ds ss e) ≡ ((c && types) && ok-body2 ds ss e)
-    go true h = ap (λ b. types && b) (body h)
-    go false h = refl

@@ -10,6 +10,7 @@ use lib.Dec.{T, eqb, eqb-refl, eqb→eq}
 use Rattle.language.specs.Base.{choose, from-option, present, Lexeme, same}
 use Rattle.checker.proofs.Keeps.{Name}
 use Rattle.language.specs.Checks.{Loan, Var, Env, look, fresh, all-loans, set-gone, enter, outer, both, no-more-gone}
+use Rattle.scope.specs.Log.{gone-at, Log, find}
 
 abbrev pub as-var : Name → Bool → Var
 as-var v b = record { name = v .name; ty = v .ty; gone = b; loans = v .loans }

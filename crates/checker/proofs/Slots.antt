@@ -17,6 +17,8 @@ use Rattle.checker.proofs.LoanStack.{at, expand}
 use Rattle.scope.specs.Log.{Log, gone-at, find}
 use Rattle.checker.proofs.ScopeLog.{as-var, env-of, sets, eqb-same, eqb-not, same-self}
 use Rattle.scope.proofs.SlotWords.{same-is}
+use Rattle.scope.specs.Slots.{Slot, Found, found-at, seek}
+use Rattle.checker.specs.Machine.{there2, fresh2}
 
 -- the loans of each name: its entries, with those of older names for "as that one has"
 abbrev pub each : List Slot → List (List Loan)

@@ -3,19 +3,24 @@ use mathlib.Core.Bool.{Bool, true, false, _&&_, _||_, not}
 use mathlib.Core.List.{List, [], _∷_, _++_}
 use mathlib.Core.Option.{Option, some, none}
 use lib.ListN.{length}
-use Rattle.language.specs.Base.{if-some, only-if, Lexeme}
-use Rattle.language.specs.Syntax.{Ty, int, dat, box, ref, mut, Access, take, view, edit, Data, Ctor}
+use Rattle.language.specs.Base.{choose, if-some, only-if, present, Lexeme}
+use Rattle.language.specs.Syntax.{Ty, int, dat, box, ref, mut, Access, take, view, edit, Data, Ctor, Param}
 use Rattle.language.specs.Checks.{same-ty, owned, ctor-named, home-of, data-named, data-of, loan, readable, is-free, loadable, types-of-pars, ref-of, covers, boxed-in}
 use Rattle.code.specs.Instr.{Instr, i-num, i-var, i-int, i-op, i-make, i-call, i-arg, i-apply, i-box, i-share, i-lend, i-load, i-get, i-bind, i-assign, i-store, i-put, i-if, i-else, i-end-if, i-while, i-do, i-end-while, i-match, i-arm, i-name, i-body, i-end-arm, i-end-match, i-open, i-inside, i-give, i-end-fn, i-ty-int, i-ty-data, i-ty-box, i-ty-ref, i-ty-mut, i-field, i-ctor, i-data, i-param, i-fn}
 use Rattle.checker.specs.Heads.{sig-named}
+use Rattle.checker.specs.Exec.{is-end}
 use Rattle.checker.specs.Frames.{Ctx, data-only, on-one, on-none}
 use Rattle.scope.specs.Loans.{Ent, leaf, via, leaves}
 use Rattle.scope.specs.Log.{Log, gone-at, find, joined}
-use Rattle.scope.specs.Slots.{Slot, slot-of, Found, seek}
-use Rattle.checker.specs.Machine.{there2, fresh2}
+use Rattle.scope.specs.Slots.{Slot, slot-of, Found, seek, stack}
 use Rattle.checker.specs.CallerBits.{from-ents, bits}
 use Rattle.checker.specs.Marks.{Matching, entries, k-call, k-then, k-else, k-test, k-loop, k-match, State2, st, rest, names-of, log-of, held2, scope, live, on-call2, on-then2, on-else2, on-test2, on-loop2, on-match2}
 
+-- a name that's there; one that's new
+abbrev pub there2 : List Slot → Log → Lexeme → Option Found
+there2 vs l x = if-some (seek vs x) (λ f. only-if (not (find l (length (f .older)))) (some f))
+abbrev pub fresh2 : List Slot → Lexeme → Bool
+fresh2 vs x = not (present (seek vs x))
 abbrev pub readable2 : List Ent → List Slot → Lexeme → Bool
 readable2 es vs x = readable (leaves (es ++ stack vs)) x
 abbrev pub free2 : List Ent → List Slot → Lexeme → Bool
@@ -135,3 +140,13 @@ exec2 p (i-ctor c) s = none
 exec2 p (i-data d w) s = none
 exec2 p (i-param x) s = none
 exec2 p (i-fn f) s = none
+-- to the end of a function
+abbrev pub exec2-all : Ctx → List Instr → State2 → Option State2
+exec2-all p [] s = none
+exec2-all p (i ∷ is) s = choose (is-end i) (some s) (if-some (exec2 p i s) (λ t. exec2-all p is t))
+-- parameters: names with no loans
+abbrev pub par-slots : List Param → List Slot → List Slot
+par-slots [] vs = vs
+par-slots (q ∷ qs) vs = par-slots qs (slot-of (q .name) (q .ty) [] ∷ vs)
+abbrev pub start : List Param → State2
+start qs = rest (par-slots qs []) [] []

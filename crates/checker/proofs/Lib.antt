@@ -1,0 +1,16 @@
+pub mod Options
+pub mod Loans
+pub mod Keeps
+pub mod LoanStack
+pub mod ScopeLog
+pub mod Slots
+pub mod LogJoin
+pub mod Abstract
+pub mod StepLaws
+pub mod StepControl
+pub mod StepMatch
+pub mod StepValue
+pub mod StepScope
+pub mod Step
+pub mod FromCaller
+pub mod Run2

@@ -1,0 +1,6 @@
+pub mod Heads
+pub mod Frames
+pub mod Exec
+pub mod CallerBits
+pub mod Marks
+pub mod Machine

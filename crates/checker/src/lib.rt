@@ -1,0 +1,1 @@
+// The checker of a function's body: one pass over its code.
