@@ -14,3 +14,4 @@ pub mod StepScope
 pub mod Step
 pub mod FromCaller
 pub mod Run2
+pub mod FrameBack

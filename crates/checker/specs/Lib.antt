@@ -1,4 +1,5 @@
 pub mod Heads
+pub mod FrameWords
 pub mod Frames
 pub mod Exec
 pub mod CallerBits

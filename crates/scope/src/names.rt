@@ -49,7 +49,7 @@ fn outer_number(outer: Outer) -> u64
     }
 }
 
-fn base_in(number: u64, operand: u64) -> Base
+pub fn base_in(number: u64, operand: u64) -> Base
     ensures { λ r. ⌜ r ≡ «base-in» number operand ⌝ }
 {
     match number {
@@ -59,7 +59,7 @@ fn base_in(number: u64, operand: u64) -> Base
     }
 }
 
-fn base_number(base: Base) -> u64
+pub fn base_number(base: Base) -> u64
     ensures { λ r. ⌜ r ≡ «base-number» base ⌝ }
 {
     match base {
@@ -69,7 +69,7 @@ fn base_number(base: Base) -> u64
     }
 }
 
-fn base_operand(base: Base) -> u64
+pub fn base_operand(base: Base) -> u64
     ensures { λ r. ⌜ r ≡ «base-operand» base ⌝ }
 {
     match base {
