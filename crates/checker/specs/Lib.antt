@@ -5,3 +5,4 @@ pub mod Exec
 pub mod CallerBits
 pub mod Marks
 pub mod Machine
+pub mod Stands

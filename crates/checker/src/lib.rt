@@ -2,3 +2,12 @@
 
 mod frames;
 mod state;
+mod value;
+
+pub use frames::Call;
+pub use frames::Frame;
+pub use frames::Match;
+pub use state::Rule;
+pub use state::State;
+pub use state::Words;
+pub use value::number;
