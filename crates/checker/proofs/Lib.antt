@@ -15,3 +15,4 @@ pub mod Step
 pub mod FromCaller
 pub mod Run2
 pub mod FrameBack
+pub mod Decoded

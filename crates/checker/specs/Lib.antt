@@ -6,3 +6,4 @@ pub mod CallerBits
 pub mod Marks
 pub mod Machine
 pub mod Stands
+pub mod Held

@@ -18,12 +18,12 @@ use Rattle.types.specs.Types.{type-of, base-of}
 use Rattle.scope.specs.declared.loans.Entry.{Entry}
 use Rattle.scope.specs.Log.{Log, part, segments}
 use Rattle.scope.specs.Loans.{Ent, slice, ent-of}
-use Rattle.scope.specs.Slots.{slots-of}
+use Rattle.scope.specs.Slots.{Slot, slots-of}
 use Rattle.checker.specs.declared.state.Words.{Words}
 use Rattle.checker.specs.declared.state.State.{State}
 use Rattle.checker.specs.declared.state.Rule.{Rule}
 use Rattle.checker.specs.declared.frames.Call.{Call}
-use Rattle.checker.specs.declared.frames.Match as Rows
+use Rattle.checker.specs.declared.frames.Match.{Match}
 use Rattle.checker.specs.declared.frames.Frame.{Frame}
 use Rattle.checker.specs.declared.frames.Frame.the-variants.{Call as ACall, Then, Else, Test, Loop, Match as AMatch}
 use Rattle.checker.specs.FrameWords.{frame-at}
@@ -106,49 +106,17 @@ part-is text None = none
 part-is text (Some e) = some (ent-of text e)
 
 -- a frame in words is a frame of the machine
-abbrev pub Is : Decls → List ℕ → List ℕ → List ℕ → List ℕ → List ℕ → Tops → Frame → Mark → List Mark → Type 0
-Is d text code args seen ends t (ACall c) (k-call ts u es) ks = (choose (c .params) (d .params (c .next) (c .end)) (d .fields (c .next) (c .end)) ≡ ts) × (base-of text code (c .makes) ≡ u) × (slice text args (c .base) (t .args - c .base) ≡ es) × (c .base ≤ t .args)
-Is d text code args seen ends t (ACall c) (k-then vs l) ks = ⊥
-Is d text code args seen ends t (ACall c) (k-else vs l a) ks = ⊥
-Is d text code args seen ends t (ACall c) (k-test vs l) ks = ⊥
-Is d text code args seen ends t (ACall c) (k-loop vs l ws m) ks = ⊥
-Is d text code args seen ends t (ACall c) (k-match vs l arms q) ks = ⊥
-Is d text code args seen ends t (Then h m) (k-call ts u es) ks = ⊥
-Is d text code args seen ends t (Then h m) (k-then vs l) ks = (h ≡ length (vs ++ names-of ks)) × (m ≡ length (l ++ whole ks))
-Is d text code args seen ends t (Then h m) (k-else vs l a) ks = ⊥
-Is d text code args seen ends t (Then h m) (k-test vs l) ks = ⊥
-Is d text code args seen ends t (Then h m) (k-loop vs l ws n) ks = ⊥
-Is d text code args seen ends t (Then h m) (k-match vs l arms q) ks = ⊥
-Is d text code args seen ends t (Else h) (k-call ts u es) ks = ⊥
-Is d text code args seen ends t (Else h) (k-then vs l) ks = ⊥
-Is d text code args seen ends t (Else h) (k-else vs l a) ks = h ≡ length (vs ++ names-of ks)
-Is d text code args seen ends t (Else h) (k-test vs l) ks = ⊥
-Is d text code args seen ends t (Else h) (k-loop vs l ws m) ks = ⊥
-Is d text code args seen ends t (Else h) (k-match vs l arms q) ks = ⊥
-Is d text code args seen ends t (Test h m) (k-call ts u es) ks = ⊥
-Is d text code args seen ends t (Test h m) (k-then vs l) ks = ⊥
-Is d text code args seen ends t (Test h m) (k-else vs l a) ks = ⊥
-Is d text code args seen ends t (Test h m) (k-test vs l) ks = (h ≡ length (vs ++ names-of ks)) × (m ≡ length (l ++ whole ks))
-Is d text code args seen ends t (Test h m) (k-loop vs l ws n) ks = ⊥
-Is d text code args seen ends t (Test h m) (k-match vs l arms q) ks = ⊥
-Is d text code args seen ends t (Loop h m i n) (k-call ts u es) ks = ⊥
-Is d text code args seen ends t (Loop h m i n) (k-then vs l) ks = ⊥
-Is d text code args seen ends t (Loop h m i n) (k-else vs l a) ks = ⊥
-Is d text code args seen ends t (Loop h m i n) (k-test vs l) ks = ⊥
-Is d text code args seen ends t (Loop h m i n) (k-loop vs l ws a) ks = (h ≡ length (vs ++ names-of ks)) × (m ≡ length (l ++ whole ks)) × (i ≡ length (ws ++ (vs ++ names-of ks))) × (n ≡ length (a ++ (l ++ whole ks)))
-Is d text code args seen ends t (Loop h m i n) (k-match vs l arms q) ks = ⊥
-Is d text code args seen ends t (AMatch m) (k-call ts u es) ks = ⊥
-Is d text code args seen ends t (AMatch m) (k-then vs l) ks = ⊥
-Is d text code args seen ends t (AMatch m) (k-else vs l a) ks = ⊥
-Is d text code args seen ends t (AMatch m) (k-test vs l) ks = ⊥
-Is d text code args seen ends t (AMatch m) (k-loop vs l ws n) ks = ⊥
-Is d text code args seen ends t (AMatch m) (k-match vs l arms q) ks = (m .names ≡ length (vs ++ names-of ks)) × (access-of (m .access) ≡ q .way) × (part-is text (m .part) ≡ q .part) × (d .data-at (m .«data») ≡ q .data1) × (seen-in text seen (m .seen) (t .seen - m .seen) ≡ q .seen) × (ends-in ends (m .ends) (t .ends - m .ends) ≡ arm-ends arms (l ++ whole ks)) × (d .fields (m .next) (m .end) ≡ q .left)
+pub data Is (d : Decls) (text code args seen ends : List ℕ) (t : Tops) : Frame → Mark → List Mark → Type 0 where
+  is-call : {c : Call} {ts : List Ty} {u : Ty} {es : List Ent} {ks : List Mark} → choose (c .params) (d .params (c .next) (c .end)) (d .fields (c .next) (c .end)) ≡ ts → base-of text code (c .makes) ≡ u → slice text args (c .base) (t .args - c .base) ≡ es → c .base ≤ t .args → Is d text code args seen ends t (ACall c) (k-call ts u es) ks
+  is-then : {h m : ℕ} {vs : List Slot} {l : Log} {ks : List Mark} → h ≡ length (vs ++ names-of ks) → m ≡ length (l ++ whole ks) → Is d text code args seen ends t (Then h m) (k-then vs l) ks
+  is-else : {h : ℕ} {vs : List Slot} {l a : Log} {ks : List Mark} → h ≡ length (vs ++ names-of ks) → Is d text code args seen ends t (Else h) (k-else vs l a) ks
+  is-test : {h m : ℕ} {vs : List Slot} {l : Log} {ks : List Mark} → h ≡ length (vs ++ names-of ks) → m ≡ length (l ++ whole ks) → Is d text code args seen ends t (Test h m) (k-test vs l) ks
+  is-loop : {h m i n : ℕ} {vs ws : List Slot} {l a : Log} {ks : List Mark} → h ≡ length (vs ++ names-of ks) → m ≡ length (l ++ whole ks) → i ≡ length (ws ++ (vs ++ names-of ks)) → n ≡ length (a ++ (l ++ whole ks)) → Is d text code args seen ends t (Loop h m i n) (k-loop vs l ws a) ks
+  is-match : {m : Match} {vs : List Slot} {l : Log} {arms : List Log} {q : Matching} {ks : List Mark} → m .names ≡ length (vs ++ names-of ks) → access-of (m .access) ≡ q .way → part-is text (m .part) ≡ q .part → d .data-at (m .«data») ≡ q .data1 → seen-in text seen (m .seen) (t .seen - m .seen) ≡ q .seen → ends-in ends (m .ends) (t .ends - m .ends) ≡ arm-ends arms (l ++ whole ks) → d .fields (m .next) (m .end) ≡ q .left → Is d text code args seen ends t (AMatch m) (k-match vs l arms q) ks
 
-abbrev pub Framed : Decls → List ℕ → List ℕ → List ℕ → List ℕ → List ℕ → List ℕ → ℕ → Tops → List Mark → Type 0
-Framed d text code args seen ends frames zero t [] = Unit {0}
-Framed d text code args seen ends frames zero t (k ∷ ks) = ⊥
-Framed d text code args seen ends frames (suc n) t [] = ⊥
-Framed d text code args seen ends frames (suc n) t (k ∷ ks) = Is d text code args seen ends t (frame-at frames n) k ks × Framed d text code args seen ends frames n (below (frame-at frames n) t) ks
+pub data Framed (d : Decls) (text code args seen ends frames : List ℕ) : ℕ → Tops → List Mark → Type 0 where
+  no-frame : {t : Tops} → Framed d text code args seen ends frames zero t []
+  one-frame : {n : ℕ} {t : Tops} {k : Mark} {ks : List Mark} → Is d text code args seen ends t (frame-at frames n) k ks → Framed d text code args seen ends frames n (below (frame-at frames n) t) ks → Framed d text code args seen ends frames (suc n) t (k ∷ ks)
 
 abbrev pub tops : State → Tops
 tops h = record { args = h .base; seen = h .seen; ends = h .ends }

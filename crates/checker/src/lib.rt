@@ -1,5 +1,6 @@
 // The checker of a function's body: one pass over its code.
 
+mod ask;
 mod frames;
 mod state;
 mod value;
