@@ -128,3 +128,7 @@ module _ (d : Decls) (w : Lent) (h : State) (s : State2) (st : Stands d w h s) (
 
 pub lent-now : (d : Decls) (w : Lent) (h : State) (s : State2) → Stands d w h s → (f : Loan → Bool) (x y b : Bool) → x ≡ b → x ≡ some-of f (leaves (held-in (w .text) (w .args) (w .frames) (h .frames) (h .base))) → y ≡ some-of f (leaves (stack (scope s))) → (b || y) ≡ some-of f (leaves (held2 (s .frames) ++ stack (scope s)))
 lent-now d w h s st f x y b e p q = both-lent f (held2 (s .frames)) (stack (scope s)) b y (sym e ∙ p ∙ ap (λ es. some-of f (leaves es)) (held-is d (w .text) (w .code) (w .args) (w .seen) (w .ends) (w .frames) (h .frames) (tops h) (s .frames) (st .frames))) q
+
+pub sought-low : (text code ns : List ℕ) (h : ℕ) (x : Lexeme) (k : ℕ) (o : Option Found) → Sought text code ns h x k o → k < h
+sought-low text code ns h x k none q = absurd q
+sought-low text code ns h x k (some f) q = q .3

@@ -16,3 +16,5 @@ pub mod FromCaller
 pub mod Run2
 pub mod FrameBack
 pub mod Decoded
+pub mod Framing
+pub mod Outcomes

@@ -3,7 +3,7 @@ use mathlib.Core.List.{List, [], _∷_, _++_}
 use mathlib.Core.Bool.{Bool, true, false}
 use mathlib.Core.Option.{Option, some, none}
 use mathlib.Core.Path.{_≡_}
-use Prim.Native.Nat.{ℕ, zero, suc, _-_, min}
+use Prim.Native.Nat.{ℕ, zero, suc, _-_, _<_, min}
 use Rattle.std.specs.declared.result.Result.{Result}
 use Rattle.std.specs.declared.result.Result.the-variants.{Ok, Err}
 use Rattle.language.specs.Base.{Lexeme}
@@ -34,3 +34,7 @@ There text code ns h x none (Ok p) = ⊥
 There text code ns h x (some f) (Ok p) = At text code ns h x (p .0) f
 There text code ns h x none (Err e) = Unit {0}
 There text code ns h x (some f) (Err e) = ⊥
+
+abbrev pub Low : ℕ → Result Place Rule → Type 0
+Low n (Ok p) = p .0 < n
+Low n (Err e) = Unit {0}

@@ -7,3 +7,4 @@ pub mod Marks
 pub mod Machine
 pub mod Stands
 pub mod Held
+pub mod Outcome

@@ -19,6 +19,7 @@ use Rattle.scope.specs.declared.loans.Entry.{Entry}
 use Rattle.scope.specs.Log.{Log, part, segments}
 use Rattle.scope.specs.Loans.{Ent, slice, ent-of}
 use Rattle.scope.specs.Slots.{Slot, slots-of}
+use Rattle.checker.specs.declared.state.Source.{Source}
 use Rattle.checker.specs.declared.state.Words.{Words}
 use Rattle.checker.specs.declared.state.State.{State}
 use Rattle.checker.specs.declared.state.Rule.{Rule}
@@ -43,8 +44,11 @@ pub record Lent : Type 0 where
   pub seen : List ℕ
   pub ends : List ℕ
 
-abbrev pub lent : Words → Lent
-lent w = record { text = now (w .text); code = now (w .code); names = now (w .names); loans = now (w .loans); args = now (w .args); log = now (w .log); gaps = now (w .gaps); frames = now (w .frames); seen = now (w .seen); ends = now (w .ends) }
+abbrev pub lent-in : List ℕ → List ℕ → Words → Lent
+lent-in text code w = record { text = text; code = code; names = now (w .names); loans = now (w .loans); args = now (w .args); log = now (w .log); gaps = now (w .gaps); frames = now (w .frames); seen = now (w .seen); ends = now (w .ends) }
+
+abbrev pub lent : Source → Words → Lent
+lent s w = lent-in (now (s .text)) (now (s .code)) w
 
 -- what is declared, by its number: the types of a range of fields, and of one of parameters; data
 pub record Decls : Type 0 where

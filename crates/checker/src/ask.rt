@@ -1,18 +1,20 @@
 ghost use Prim.Native.Nat.{ℕ, _+_, _*_, _<_, _≤_};
 ghost use mathlib.Core.Path.{_≡_};
-ghost use mathlib.Core.List.{List, _++_};
+ghost use mathlib.Core.List.{[], _++_};
 ghost use lib.ListN.{length};
 ghost use Rattle.language.specs.Base.{«some-of»};
 ghost use Rattle.lexer.specs.Spelling.{spelling};
 ghost use Rattle.scope.specs.Loans.{asks, leaves};
-ghost use Rattle.scope.specs.Slots.{stack};
+ghost use Rattle.scope.specs.Slots.{stack, «variable-at»};
 ghost use Rattle.checker.specs.Marks.{State2, held2, scope as Scope, live};
-ghost use Rattle.checker.specs.Machine.{there2};
+ghost use Rattle.checker.specs.Machine.{there2, readable2, free2};
 ghost use Rattle.checker.specs.Stands.{Decls, lent, Stands, Room};
-ghost use Rattle.checker.specs.Held.{«held-in», There};
+ghost use Rattle.checker.specs.Held.{«held-in», There, Low};
+ghost use Rattle.checker.specs.Outcome.{Holds};
 
 use crate::frames::Frame;
 use crate::state::Rule;
+use crate::state::Source;
 use crate::state::State;
 use crate::state::Words;
 use lexer::Name;
@@ -20,8 +22,10 @@ use scope::loans::Asked;
 use scope::loans::is_lent;
 use scope::log::Place;
 use scope::log::is_gone;
+use scope::names::Variable;
 use scope::names::has_loan;
 use scope::names::seek;
+use types::ValueType;
 
 // Whether an argument that's already there has such a loan of a name.
 fn is_held(text: &[u8], args: &[u64], base: usize, frames: &[u64], count: usize, name: Name, asked: Asked) -> bool
@@ -50,30 +54,31 @@ fn is_held(text: &[u8], args: &[u64], base: usize, frames: &[u64], count: usize,
 }
 
 // Whether a name in scope has such a loan of a name.
-pub fn is_lent_by_names(words: &Words<'_>, at: &State, name: Name, asked: Asked) -> bool
-    requires { ⌜ Room (lent (now words)) (now at) ⌝ }
-    ensures { λ r. ⌜ ((d : Decls) (s : State2) → Stands d (lent (now (words .entry))) (now (at .entry)) s → r ≡ «some-of» (asks asked (spelling (now (now (words .entry) .text)) name)) (leaves (stack (Scope s)))) ⌝ }
+pub fn is_lent_by_names(source: &Source<'_>, words: &Words<'_>, at: &State, name: Name, asked: Asked) -> bool
+    requires { ⌜ Room (lent (now source) (now words)) (now at) ⌝ }
+    ensures { λ r. ⌜ ((d : Decls) (s : State2) → Stands d (lent (now (source .entry)) (now (words .entry))) (now (at .entry)) s → r ≡ «some-of» (asks asked (spelling (now (now (source .entry) .text)) name)) (leaves (stack (Scope s)))) ⌝ }
 {
-    has_loan(words.text, words.names, at.names, words.loans, at.loans, name, asked)
+    has_loan(source.text, words.names, at.names, words.loans, at.loans, name, asked)
 }
 
 // Whether an argument or a name in scope has such a loan of a name.
-pub fn is_lent_now(words: &Words<'_>, at: &State, name: Name, asked: Asked) -> bool
-    requires { ⌜ Room (lent (now words)) (now at) ⌝ }
-    ensures { λ r. ⌜ ((d : Decls) (s : State2) → Stands d (lent (now (words .entry))) (now (at .entry)) s → r ≡ «some-of» (asks asked (spelling (now (now (words .entry) .text)) name)) (leaves (held2 (s .frames) ++ stack (Scope s)))) ⌝ }
+pub fn is_lent_now(source: &Source<'_>, words: &Words<'_>, at: &State, name: Name, asked: Asked) -> bool
+    requires { ⌜ Room (lent (now source) (now words)) (now at) ⌝ }
+    ensures { λ r. ⌜ ((d : Decls) (s : State2) → Stands d (lent (now (source .entry)) (now (words .entry))) (now (at .entry)) s → r ≡ «some-of» (asks asked (spelling (now (now (source .entry) .text)) name)) (leaves (held2 (s .frames) ++ stack (Scope s)))) ⌝ }
 {
-    if is_held(words.text, words.args, at.base, words.frames, at.frames, name, asked) {
+    if is_held(source.text, words.args, at.base, words.frames, at.frames, name, asked) {
         return true;
     }
-    is_lent_by_names(words, at, name, asked)
+    is_lent_by_names(source, words, at, name, asked)
 }
 
 // The place of a name that's in scope and hasn't been moved.
-pub fn there(words: &Words<'_>, at: &State, name: Name) -> Result<Place, Rule>
-    requires { ⌜ Room (lent (now words)) (now at) ⌝ }
-    ensures { λ r. ⌜ ((d : Decls) (s : State2) → Stands d (lent (now (words .entry))) (now (at .entry)) s → There (now (now (words .entry) .text)) (now (now (words .entry) .code)) (now (now (words .entry) .names)) (now (at .entry) .names) (spelling (now (now (words .entry) .text)) name) (there2 (Scope s) (live s) (spelling (now (now (words .entry) .text)) name)) r) ⌝ }
+pub fn there(source: &Source<'_>, words: &Words<'_>, at: &State, name: Name) -> Result<Place, Rule>
+    requires { ⌜ Room (lent (now source) (now words)) (now at) ⌝ }
+    ensures is { λ r. ⌜ ((d : Decls) (s : State2) → Stands d (lent (now (source .entry)) (now (words .entry))) (now (at .entry)) s → There (now (now (source .entry) .text)) (now (now (source .entry) .code)) (now (now (words .entry) .names)) (now (at .entry) .names) (spelling (now (now (source .entry) .text)) name) (there2 (Scope s) (live s) (spelling (now (now (source .entry) .text)) name)) r) ⌝ }
+    ensures within { λ r. ⌜ Low (now (at .entry) .names) r ⌝ }
 {
-    match seek(words.text, words.names, at.names, name) {
+    match seek(source.text, words.names, at.names, name) {
         None => Err(Rule::NotThere),
         Some(place) => {
             if is_gone(words.log, at.log, words.gaps, at.gaps, place) {
@@ -82,4 +87,55 @@ pub fn there(words: &Words<'_>, at: &State, name: Name) -> Result<Place, Rule>
             Ok(place)
         }
     }
+}
+
+// The type of the name at a place.
+pub fn type_at(words: &Words<'_>, place: Place) -> ValueType
+    requires { ⌜ 7 * place .0 + 6 < length (now (now words .names)) ⌝ }
+    ensures { λ r. ⌜ r ≡ «variable-at» (now (now (words .entry) .names)) (place .0) .ty ⌝ }
+{
+    Variable::load(words.names, place).ty
+}
+
+// Refuses what is not readable: somebody has the name alone.
+pub fn readable(source: &Source<'_>, words: &Words<'_>, at: &State, name: Name) -> Result<(), Rule>
+    requires { ⌜ Room (lent (now source) (now words)) (now at) ⌝ }
+    ensures { λ r. ⌜ ((d : Decls) (s : State2) → Stands d (lent (now (source .entry)) (now (words .entry))) (now (at .entry)) s → Holds (readable2 (held2 (s .frames)) (Scope s) (spelling (now (now (source .entry) .text)) name)) r) ⌝ }
+{
+    if is_lent_now(source, words, at, name, Asked::Alone) {
+        return Err(Rule::NotReadable);
+    }
+    Ok(())
+}
+
+// Refuses what is not free: somebody has a loan of the name.
+pub fn free(source: &Source<'_>, words: &Words<'_>, at: &State, name: Name) -> Result<(), Rule>
+    requires { ⌜ Room (lent (now source) (now words)) (now at) ⌝ }
+    ensures { λ r. ⌜ ((d : Decls) (s : State2) → Stands d (lent (now (source .entry)) (now (words .entry))) (now (at .entry)) s → Holds (free2 (held2 (s .frames)) (Scope s) (spelling (now (now (source .entry) .text)) name)) r) ⌝ }
+{
+    if is_lent_now(source, words, at, name, Asked::Any) {
+        return Err(Rule::NotFree);
+    }
+    Ok(())
+}
+
+// The same in a statement, where no argument is under way.
+pub fn readable_by_names(source: &Source<'_>, words: &Words<'_>, at: &State, name: Name) -> Result<(), Rule>
+    requires { ⌜ Room (lent (now source) (now words)) (now at) ⌝ }
+    ensures { λ r. ⌜ ((d : Decls) (s : State2) → Stands d (lent (now (source .entry)) (now (words .entry))) (now (at .entry)) s → Holds (readable2 [] (Scope s) (spelling (now (now (source .entry) .text)) name)) r) ⌝ }
+{
+    if is_lent_by_names(source, words, at, name, Asked::Alone) {
+        return Err(Rule::NotReadable);
+    }
+    Ok(())
+}
+
+pub fn free_by_names(source: &Source<'_>, words: &Words<'_>, at: &State, name: Name) -> Result<(), Rule>
+    requires { ⌜ Room (lent (now source) (now words)) (now at) ⌝ }
+    ensures { λ r. ⌜ ((d : Decls) (s : State2) → Stands d (lent (now (source .entry)) (now (words .entry))) (now (at .entry)) s → Holds (free2 [] (Scope s) (spelling (now (now (source .entry) .text)) name)) r) ⌝ }
+{
+    if is_lent_by_names(source, words, at, name, Asked::Any) {
+        return Err(Rule::NotFree);
+    }
+    Ok(())
 }

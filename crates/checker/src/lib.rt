@@ -4,11 +4,13 @@ mod ask;
 mod frames;
 mod state;
 mod value;
+mod write;
 
 pub use frames::Call;
 pub use frames::Frame;
 pub use frames::Match;
 pub use state::Rule;
+pub use state::Source;
 pub use state::State;
 pub use state::Words;
 pub use value::number;

@@ -1,10 +1,14 @@
 use types::ValueType;
 
+// What is checked: a text, and the code that it was read into.
+pub struct Source<'a> {
+    pub text: &'a [u8],
+    pub code: &'a [u64],
+}
+
 // The words that are lent for one function's check: names in scope, the entries of their loans, those of arguments and of the value, the
 // log of moves, its gaps, frames, and for matches the constructors seen and where arms ended.
 pub struct Words<'a> {
-    pub text: &'a [u8],
-    pub code: &'a [u64],
     pub names: &'a mut [u64],
     pub loans: &'a mut [u64],
     pub args: &'a mut [u64],

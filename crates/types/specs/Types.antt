@@ -128,6 +128,14 @@ Inner n (IsBox t) = (t .outer ≡ Plain) × (t .boxes ≤ n)
 Inner n (IsRef t) = (t .outer ≡ Plain) × (t .boxes ≤ n)
 Inner n (IsMut t) = (t .outer ≡ Plain) × (t .boxes ≤ n)
 
+-- what's no reference is plain
+abbrev pub Bare : Shape → Outer → Type 0
+Bare IsInt o = o ≡ Plain
+Bare (IsData x) o = o ≡ Plain
+Bare (IsBox t) o = o ≡ Plain
+Bare (IsRef t) o = Unit {0}
+Bare (IsMut t) o = Unit {0}
+
 abbrev pub layers : Ty → ℕ
 layers int = 0
 layers (dat d) = 0

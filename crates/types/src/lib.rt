@@ -8,6 +8,8 @@ mod ty;
 
 pub use same::Compared;
 pub use same::same_type;
+pub use layer::behind;
+pub use layer::boxed;
 pub use layer::is_owned;
 pub use layer::shape;
 pub use spelled::same_name;
