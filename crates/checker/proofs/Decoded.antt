@@ -126,6 +126,17 @@ module _ (d : Decls) (w : Lent) (h : State) (s : State2) (st : Stands d w h s) (
       go none q = q
       go (some f) q = subst (λ b. There (w .text) (w .code) (w .names) (h .names) x (only-if (not b) (some f)) (Ok (record { 0 = k }))) (g ∙ ap₂ find (live-is d w h s st) (sym (q .2))) q
 
+  -- one that's in scope, be it gone or not
+  pub scope-yes : Sought (w .text) (w .code) (w .names) (h .names) x k (seek (slots-of (w .text) (w .code) (w .names) (w .loans) (h .names) (h .loans)) x) → There (w .text) (w .code) (w .names) (h .names) x (seek (scope s) x) (Ok (record { 0 = k }))
+  scope-yes q = subst (λ vs. There (w .text) (w .code) (w .names) (h .names) x (seek vs x) (Ok (record { 0 = k }))) (st .names) (go (seek (slots-of (w .text) (w .code) (w .names) (w .loans) (h .names) (h .loans)) x) q)
+    where
+      go : (o : Option Found) → Sought (w .text) (w .code) (w .names) (h .names) x k o → There (w .text) (w .code) (w .names) (h .names) x o (Ok (record { 0 = k }))
+      go none q = q
+      go (some f) q = q
+
+  pub scope-no : seek (slots-of (w .text) (w .code) (w .names) (w .loans) (h .names) (h .loans)) x ≡ none → There (w .text) (w .code) (w .names) (h .names) x (seek (scope s) x) (Err e)
+  scope-no q = subst (λ vs. There (w .text) (w .code) (w .names) (h .names) x (seek vs x) (Err e)) (st .names) (subst (λ o. There (w .text) (w .code) (w .names) (h .names) x o (Err e)) (sym q) tt)
+
 pub lent-now : (d : Decls) (w : Lent) (h : State) (s : State2) → Stands d w h s → (f : Loan → Bool) (x y b : Bool) → x ≡ b → x ≡ some-of f (leaves (held-in (w .text) (w .args) (w .frames) (h .frames) (h .base))) → y ≡ some-of f (leaves (stack (scope s))) → (b || y) ≡ some-of f (leaves (held2 (s .frames) ++ stack (scope s)))
 lent-now d w h s st f x y b e p q = both-lent f (held2 (s .frames)) (stack (scope s)) b y (sym e ∙ p ∙ ap (λ es. some-of f (leaves es)) (held-is d (w .text) (w .code) (w .args) (w .seen) (w .ends) (w .frames) (h .frames) (tops h) (s .frames) (st .frames))) q
 

@@ -18,3 +18,4 @@ pub mod FrameBack
 pub mod Decoded
 pub mod Framing
 pub mod Outcomes
+pub mod Beginning

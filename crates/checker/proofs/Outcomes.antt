@@ -19,6 +19,14 @@ use Rattle.checker.specs.Outcome.{Holds}
 pub only-none : {A : Type 0} (b : Bool) (o : Option A) → b ≡ false → only-if b o ≡ none
 only-none b o h = ap (λ b. only-if b o) h
 
+-- three tests, of which the second doesn't hold
+pub none-second : {A : Type 0} (a b c : Bool) (o : Option A) → b ≡ false → only-if (a && (b && c)) o ≡ none
+none-second a b c o e = ap (λ b. only-if (a && (b && c)) o) e ∙ go a
+  where
+    go : (a : Bool) → only-if (a && false) o ≡ none
+    go true = refl
+    go false = refl
+
 module _ (d : Decls) (w : Lent) (h : State) where
   -- a test that holds
   pub only-left : (b : Bool) (o : Option State2) → b ≡ true → Left d w h o → Left d w h (only-if b o)

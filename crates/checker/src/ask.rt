@@ -5,7 +5,7 @@ ghost use lib.ListN.{length};
 ghost use Rattle.language.specs.Base.{«some-of»};
 ghost use Rattle.lexer.specs.Spelling.{spelling};
 ghost use Rattle.scope.specs.Loans.{asks, leaves};
-ghost use Rattle.scope.specs.Slots.{stack, «variable-at»};
+ghost use Rattle.scope.specs.Slots.{stack, seek as Seek, «variable-at»};
 ghost use Rattle.checker.specs.Marks.{State2, held2, scope as Scope, live};
 ghost use Rattle.checker.specs.Machine.{there2, readable2, free2};
 ghost use Rattle.checker.specs.Stands.{Decls, lent, Stands, Room};
@@ -86,6 +86,18 @@ pub fn there(source: &Source<'_>, words: &Words<'_>, at: &State, name: Name) -> 
             }
             Ok(place)
         }
+    }
+}
+
+// The place of a name that's in scope, be it gone or not.
+pub fn place_of(source: &Source<'_>, words: &Words<'_>, at: &State, name: Name) -> Result<Place, Rule>
+    requires { ⌜ Room (lent (now source) (now words)) (now at) ⌝ }
+    ensures is { λ r. ⌜ ((d : Decls) (s : State2) → Stands d (lent (now (source .entry)) (now (words .entry))) (now (at .entry)) s → There (now (now (source .entry) .text)) (now (now (source .entry) .code)) (now (now (words .entry) .names)) (now (at .entry) .names) (spelling (now (now (source .entry) .text)) name) (Seek (Scope s) (spelling (now (now (source .entry) .text)) name)) r) ⌝ }
+    ensures within { λ r. ⌜ Low (now (at .entry) .names) r ⌝ }
+{
+    match seek(source.text, words.names, at.names, name) {
+        Some(place) => Ok(place),
+        None => Err(Rule::NotThere),
     }
 }
 

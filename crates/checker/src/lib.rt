@@ -1,6 +1,8 @@
 // The checker of a function's body: one pass over its code.
 
 mod ask;
+mod assign;
+mod control;
 mod frames;
 mod state;
 mod value;

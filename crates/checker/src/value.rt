@@ -1,7 +1,7 @@
 ghost use Prim.Native.Nat.{ℕ};
 ghost use mathlib.Core.Path.{_≡_};
 ghost use mathlib.Core.List.{List, [], _∷_};
-ghost use Rattle.language.specs.Syntax.{Ty, int, ref, mut};
+ghost use Rattle.language.specs.Syntax.{Ty, int as Int, ref, mut};
 ghost use lib.ListN.{length};
 ghost use Rattle.types.specs.declared.ty.Outer.the-variants.{Plain};
 ghost use Rattle.language.specs.Checks.{same-ty, loadable, loan};
@@ -26,13 +26,13 @@ use crate::state::Rule;
 use crate::state::Source;
 use crate::state::State;
 use crate::state::Words;
+use crate::write::int;
 use crate::write::set_gone;
 use crate::write::set_lent_value;
 use crate::write::set_value;
 use lexer::Name;
 use scope::loans::Entry;
 use scope::log::Place;
-use types::Base;
 use types::Outer;
 use types::Shape;
 use types::ValueType;
@@ -41,17 +41,9 @@ use types::boxed;
 use types::is_owned;
 use types::shape;
 
-// The type of numbers.
-pub fn int() -> ValueType
-    ensures is { λ r. ⌜ ((text code : List ℕ) → «type-of» text code r ≡ int) ⌝ }
-    ensures boxes { λ r. ⌜ r .boxes ≡ 0 ⌝ }
-{
-    ValueType { outer: Outer::Plain, boxes: 0, base: Base::Number }
-}
-
 // Whether a type is that of numbers.
 pub fn is_int(code: &[u64], ty: ValueType) -> bool
-    ensures { λ r. ⌜ ((text : List ℕ) → r ≡ same-ty («type-of» text (now (code .entry)) ty) int) ⌝ }
+    ensures { λ r. ⌜ ((text : List ℕ) → r ≡ same-ty («type-of» text (now (code .entry)) ty) Int) ⌝ }
 {
     match shape(code, ty) {
         Shape::Int => true,
@@ -96,7 +88,7 @@ pub fn box_value(source: &Source<'_>, words: &Words<'_>, at: &mut State) -> Resu
 // A name of a number: it's copied.
 fn copied(source: &Source<'_>, words: &Words<'_>, at: &mut State, name: Name) -> Result<(), Rule>
     requires { ⌜ Room (lent (now source) (now words)) (now at) ⌝ }
-    ensures { λ r. ⌜ ((d : Decls) (s : State2) (f : Found) → f .slot .name ≡ spelling (now (now (source .entry) .text)) name → Stands d (lent (now (source .entry)) (now (words .entry))) (now (at .entry)) s → Steps d (lent (now (source .entry)) (now (words .entry))) (now (at .exit)) (value2 s f int) r) ⌝ }
+    ensures { λ r. ⌜ ((d : Decls) (s : State2) (f : Found) → f .slot .name ≡ spelling (now (now (source .entry) .text)) name → Stands d (lent (now (source .entry)) (now (words .entry))) (now (at .entry)) s → Steps d (lent (now (source .entry)) (now (words .entry))) (now (at .exit)) (value2 s f Int) r) ⌝ }
 {
     readable(source, words, at, name)?;
     set_value(at, int());

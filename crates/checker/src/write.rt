@@ -1,8 +1,8 @@
-ghost use Prim.Native.Nat.{ℕ, _+_, _*_, _<_, _≤_};
+ghost use Prim.Native.Nat.{ℕ, _+_, _-_, _*_, _<_, _≤_};
 ghost use mathlib.Core.Path.{_≡_};
 ghost use mathlib.Core.List.{List, [], _∷_};
 ghost use lib.ListN.{length};
-ghost use Rattle.language.specs.Syntax.{Ty};
+ghost use Rattle.language.specs.Syntax.{Ty, int as Int};
 ghost use Rattle.types.specs.Types.{«type-of»};
 ghost use Rattle.scope.specs.Log.{«gone-at»};
 ghost use Rattle.scope.specs.Loans.{«ent-of»};
@@ -16,6 +16,8 @@ use scope::loans::Entry;
 use scope::loans::store_loan;
 use scope::log::Place;
 use scope::log::push;
+use types::Base;
+use types::Outer;
 use types::ValueType;
 
 // A value of a type, that has no loans.
@@ -45,4 +47,12 @@ pub fn set_gone(words: &mut Words<'_>, at: &mut State, place: Place, gone: bool)
     ensures height { λ _. ⌜ now (at .exit) .log ≡ now (at .entry) .log + 1 ⌝ }
 {
     at.log = push(words.log, at.log, place, gone);
+}
+
+// The type of numbers.
+pub fn int() -> ValueType
+    ensures is { λ r. ⌜ ((text code : List ℕ) → «type-of» text code r ≡ Int) ⌝ }
+    ensures boxes { λ r. ⌜ r .boxes ≡ 0 ⌝ }
+{
+    ValueType { outer: Outer::Plain, boxes: 0, base: Base::Number }
 }
