@@ -6,7 +6,7 @@ use mathlib.Core.Option.{Option, some, none}
 use Prim.Native.Nat.{ℕ, zero, suc, _+_, _-_, _*_, _<_, _≤_, min}
 use native.Mathlib.Omega.{arith}
 use lib.ListN.{length, getD}
-use Rattle.language.specs.Base.{choose, if-some, only-if, some-of, Lexeme}
+use Rattle.language.specs.Base.{choose, if-some, only-if, present, some-of, Lexeme}
 use Rattle.language.specs.Checks.{Loan}
 use Rattle.scope.specs.Log.{Log, Gone, find, entry-at, part, lives, segments}
 use Rattle.scope.specs.Loans.{Ent, slice, leaves}
@@ -20,7 +20,7 @@ use Rattle.checker.specs.declared.frames.Frame.{Frame}
 use Rattle.checker.specs.declared.frames.Frame.the-variants.{Call as ACall, Then, Else, Test, Loop, Match as AMatch}
 use Rattle.checker.specs.FrameWords.{frame-at}
 use Rattle.checker.specs.Marks.{Mark, k-call, k-then, k-else, k-test, k-loop, k-match, State2, log-of, held2, scope, live}
-use Rattle.checker.specs.Machine.{there2}
+use Rattle.checker.specs.Machine.{there2, fresh2}
 use Rattle.checker.specs.Stands.{Decls, Lent, Stands, tops, whole, Gap, Gapped, Tops, below, Is, is-call, is-then, is-else, is-test, is-loop, is-match, Framed, no-frame, one-frame}
 use Rattle.checker.specs.Held.{held-from, held-in, There}
 
@@ -136,6 +136,17 @@ module _ (d : Decls) (w : Lent) (h : State) (s : State2) (st : Stands d w h s) (
 
   pub scope-no : seek (slots-of (w .text) (w .code) (w .names) (w .loans) (h .names) (h .loans)) x ≡ none → There (w .text) (w .code) (w .names) (h .names) x (seek (scope s) x) (Err e)
   scope-no q = subst (λ vs. There (w .text) (w .code) (w .names) (h .names) x (seek vs x) (Err e)) (st .names) (subst (λ o. There (w .text) (w .code) (w .names) (h .names) x o (Err e)) (sym q) tt)
+
+  -- a new name, and one that's in scope already
+  pub fresh-yes : seek (slots-of (w .text) (w .code) (w .names) (w .loans) (h .names) (h .loans)) x ≡ none → fresh2 (scope s) x ≡ true
+  fresh-yes q = sym (ap (λ vs. fresh2 vs x) (st .names)) ∙ ap (λ o. not (present o)) q
+
+  pub fresh-no : Sought (w .text) (w .code) (w .names) (h .names) x k (seek (slots-of (w .text) (w .code) (w .names) (w .loans) (h .names) (h .loans)) x) → fresh2 (scope s) x ≡ false
+  fresh-no q = sym (ap (λ vs. fresh2 vs x) (st .names)) ∙ go (seek (slots-of (w .text) (w .code) (w .names) (w .loans) (h .names) (h .loans)) x) q
+    where
+      go : (o : Option Found) → Sought (w .text) (w .code) (w .names) (h .names) x k o → not (present o) ≡ false
+      go none q = absurd q
+      go (some f) q = refl
 
 pub lent-now : (d : Decls) (w : Lent) (h : State) (s : State2) → Stands d w h s → (f : Loan → Bool) (x y b : Bool) → x ≡ b → x ≡ some-of f (leaves (held-in (w .text) (w .args) (w .frames) (h .frames) (h .base))) → y ≡ some-of f (leaves (stack (scope s))) → (b || y) ≡ some-of f (leaves (held2 (s .frames) ++ stack (scope s)))
 lent-now d w h s st f x y b e p q = both-lent f (held2 (s .frames)) (stack (scope s)) b y (sym e ∙ p ∙ ap (λ es. some-of f (leaves es)) (held-is d (w .text) (w .code) (w .args) (w .seen) (w .ends) (w .frames) (h .frames) (tops h) (s .frames) (st .frames))) q

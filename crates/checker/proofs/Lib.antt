@@ -19,3 +19,9 @@ pub mod Decoded
 pub mod Framing
 pub mod Outcomes
 pub mod Beginning
+pub mod Entering
+pub mod Whole
+pub mod ExecExpr
+pub mod ExecStmt
+pub mod ExecBody
+pub mod BodyRight

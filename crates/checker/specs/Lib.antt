@@ -8,3 +8,4 @@ pub mod Machine
 pub mod Stands
 pub mod Held
 pub mod Outcome
+pub mod Promise

@@ -50,6 +50,14 @@ lent-in text code w = record { text = text; code = code; names = now (w .names);
 abbrev pub lent : Source → Words → Lent
 lent s w = lent-in (now (s .text)) (now (s .code)) w
 
+-- with other entries of names' loans
+abbrev pub with-loans : Lent → List ℕ → Lent
+with-loans w ls = record { text = w .text; code = w .code; names = w .names; loans = ls; args = w .args; log = w .log; gaps = w .gaps; frames = w .frames; seen = w .seen; ends = w .ends }
+
+-- with other names
+abbrev pub with-names : Lent → List ℕ → Lent
+with-names w ns = record { text = w .text; code = w .code; names = ns; loans = w .loans; args = w .args; log = w .log; gaps = w .gaps; frames = w .frames; seen = w .seen; ends = w .ends }
+
 -- what is declared, by its number: the types of a range of fields, and of one of parameters; data
 pub record Decls : Type 0 where
   pub fields : ℕ → ℕ → List Ty

@@ -15,7 +15,7 @@ use Rattle.checker.specs.Marks.{State2, st as state, rest, scope, live}
 use Rattle.checker.specs.Machine.{free2, stores2, there2}
 use Rattle.checker.specs.Stands.{lent, Stands, Steps}
 use Rattle.checker.proofs.Outcomes.{only-left, on-there, on-refused, steps-and, none-and, none-second}
-use Rattle.checker.proofs.assign.assign.Needs as need
+use Rattle.checker.proofs.assigning.assign.Needs as need
 
 pub returns-then-not-is-owned : need.returns-then-not-is-owned
 returns-then-not-is-owned c = λ d p s st. on-refused d (lent (c .args .source .now) (c .args .words .now)) (c .args .at .now) (c .args .source .now .text .now) (c .args .source .now .code .now) (c .args .words .now .names .now) (c .args .at .now .names) (spelling (c .args .source .now .text .now) (c .args .name)) (seek (scope s) (spelling (c .args .source .now .text .now) (c .args .name))) (c .in-Continue-place .place) (λ f. only-if (owned (f .slot .ty) && (same-ty (s .ty) (f .slot .ty) && free2 [] (scope s) (spelling (c .args .source .now .text .now) (c .args .name)))) (some (rest (s .names) (gone-at (length (f .older)) false ∷ s .log) (s .frames)))) (c .in-Continue-place .ensures tt .is d s st) (λ f a. none-and d (lent (c .args .source .now) (c .args .words .now)) (c .args .at .now) (owned (f .slot .ty)) (same-ty (s .ty) (f .slot .ty) && free2 [] (scope s) (spelling (c .args .source .now .text .now) (c .args .name))) (some (rest (s .names) (gone-at (length (f .older)) false ∷ s .log) (s .frames))) (ap owned (a .1 ∙ sym (ap (type-of (c .args .source .now .text .now) (c .args .source .now .code .now)) (c .type-at-ty .ensures))) ∙ sym (c .is-owned .ensures (c .args .source .now .text .now)) ∙ c .if-not-is-owned .taken))

@@ -15,7 +15,7 @@ use Rattle.checker.specs.Marks.{State2, st as state, rest, scope, live}
 use Rattle.checker.specs.Machine.{free2, stores2, there2}
 use Rattle.checker.specs.Stands.{lent, Stands, Steps}
 use Rattle.checker.proofs.Outcomes.{only-left, on-there, on-refused, steps-and, none-and, none-second}
-use Rattle.checker.proofs.assign.store_in.Needs as need
+use Rattle.checker.proofs.assigning.store_in.Needs as need
 
 pub returns-then-not-is-owned : need.returns-then-not-is-owned
 returns-then-not-is-owned c = λ d s u q st. none-and d (lent (c .args .source .now) (c .args .words .now)) (c .args .at .now) (owned u) (same-ty (s .ty) u && free2 [] (scope s) (spelling (c .args .source .now .text .now) (c .args .name))) (some (rest (s .names) (s .log) (s .frames))) (sym (ap owned q) ∙ sym (c .is-owned .ensures (c .args .source .now .text .now)) ∙ c .if-not-is-owned .taken)

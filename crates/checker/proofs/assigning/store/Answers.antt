@@ -15,7 +15,7 @@ use Rattle.checker.specs.Marks.{State2, st as state, rest, scope, live}
 use Rattle.checker.specs.Machine.{free2, stores2, there2}
 use Rattle.checker.specs.Stands.{lent, Stands, Steps}
 use Rattle.checker.proofs.Outcomes.{only-left, on-there, on-refused, steps-and, none-and, none-second}
-use Rattle.checker.proofs.assign.store.Needs as need
+use Rattle.checker.proofs.assigning.store.Needs as need
 
 pub returns-in-Mut : need.returns-in-Mut
 returns-in-Mut c = λ d p s st. on-there d (lent (c .args .source .now) (c .args .words .now)) (c .store-in .last .at) (c .args .source .now .text .now) (c .args .source .now .code .now) (c .args .words .now .names .now) (c .args .at .now .names) (spelling (c .args .source .now .text .now) (c .args .name)) (there2 (scope s) (live s) (spelling (c .args .source .now .text .now) (c .args .name))) (c .in-Continue-place .place) (λ f. stores2 s (spelling (c .args .source .now .text .now) (c .args .name)) (f .slot .ty)) (c .store-in .result) (c .in-Continue-place .ensures tt .is d s st) (λ f a. subst (λ (u : Ty). Steps d (lent (c .args .source .now) (c .args .words .now)) (c .store-in .last .at) (stores2 s (spelling (c .args .source .now .text .now) (c .args .name)) u) (c .store-in .result)) (sym ((a .1 ∙ sym (ap (type-of (c .args .source .now .text .now) (c .args .source .now .code .now)) (c .type-at-ty .ensures))) ∙ sym (c .in-Mut .ensures tt .layer (c .args .source .now .text .now)))) (c .store-in .ensures d s _ refl st))
