@@ -58,6 +58,7 @@ part-split ws (x ∷ a) b (suc t) e = let r = part-split ws a b t (tail e) in le
   where
     tail : {y x : Gone} {l m : Log} → y ∷ l ≡ x ∷ m → l ≡ m
     tail e = cc
+
     head : {y x : Gone} {l m : Log} → y ∷ l ≡ x ∷ m → y ≡ x
     head e = cc
 
@@ -70,13 +71,13 @@ module _ (ws gs : List ℕ) where
   gap : (ks : List Mark) (l a : Log) (g t : ℕ) (x : Log) → part ws 0 t ≡ x ++ (a ++ (l ++ whole ks)) → Gap gs g (l ++ whole ks) a → Gapped gs (g - 1) ks → Lives ks → lives ws gs g t ≡ x ++ (l ++ log-of ks)
   gap ks l a zero t x e h k ih = absurd (let p = h .0 in omega arith)
   gap ks l a (suc g) t x e h k ih =
-    let z : suc g - 1 ≡ g = omega arith in
-    let from : getD gs (2 * g) 0 ≡ length (l ++ whole ks) = ap (λ i. getD gs (2 * i) 0) (sym z) ∙ h .1 in
-    let to : getD gs (2 * g + 1) 0 ≡ length (a ++ (l ++ whole ks)) = ap (λ i. getD gs (2 * i + 1) 0) (sym z) ∙ h .2 in
-    let top = part-split ws x (a ++ (l ++ whole ks)) t e in
-    let low = part-split ws a (l ++ whole ks) (length (a ++ (l ++ whole ks))) (top .1 .0) in
-    let m : min t (getD gs (2 * g) 0) ≡ length (l ++ whole ks) = (let p = low .1 .1 in let q = top .1 .1 in omega arith) in
-    ap₂ (λ n b. part ws n (t - n) ++ lives ws gs g b) to m ∙ ap₂ _++_ (top .0) (ih g (length (l ++ whole ks)) l (low .1 .0) (subst (λ i. Gapped gs i ks) z k))
+      let z : suc g - 1 ≡ g = omega arith in
+      let from : getD gs (2 * g) 0 ≡ length (l ++ whole ks) = ap (λ i. getD gs (2 * i) 0) (sym z) ∙ h .1 in
+      let to : getD gs (2 * g + 1) 0 ≡ length (a ++ (l ++ whole ks)) = ap (λ i. getD gs (2 * i + 1) 0) (sym z) ∙ h .2 in
+      let top = part-split ws x (a ++ (l ++ whole ks)) t e in
+      let low = part-split ws a (l ++ whole ks) (length (a ++ (l ++ whole ks))) (top .1 .0) in
+      let m : min t (getD gs (2 * g) 0) ≡ length (l ++ whole ks) = (let p = low .1 .1 in let q = top .1 .1 in omega arith) in
+      ap₂ (λ n b. part ws n (t - n) ++ lives ws gs g b) to m ∙ ap₂ _++_ (top .0) (ih g (length (l ++ whole ks)) l (low .1 .0) (subst (λ i. Gapped gs i ks) z k))
 
   pub lives-is : (ks : List Mark) → Lives ks
   lives-is [] g t x e k = ap (λ i. lives ws gs i t) k ∙ e

@@ -39,37 +39,38 @@ slots-slices text code ns es fs (suc h) top b p s = ap₂ (λ l vs. slot-of (spe
         cut (suc n) e = s m (suc n) (omega arith)
 
 module _ (text code ns ns' es es' vs : List ℕ) (h top base n : ℕ) (v : Variable)
-  (this : variable-at ns' h ≡ v) (at : v .loans ≡ top)
-  (names : slots-of text code ns' es' h top ≡ slots-of text code ns es' h top)
-  (low : (from m : ℕ) → from + m ≤ top → slice text es' from m ≡ slice text es from m)
-  (copied : slice text es' top n ≡ slice text vs base n) where
+    (this : variable-at ns' h ≡ v) (at : v .loans ≡ top)
+    (names : slots-of text code ns' es' h top ≡ slots-of text code ns es' h top)
+    (low : (from m : ℕ) → from + m ≤ top → slice text es' from m ≡ slice text es from m)
+    (copied : slice text es' top n ≡ slice text vs base n) where
   pub slots-enter : slots-of text code ns' es' (h + 1) (top + n) ≡ slot-of (spelling text (v .name)) (type-of text code (v .ty)) (slice text vs base n) ∷ slots-of text code ns es h top
   slots-enter =
-    let e : (h + 1) - 1 ≡ h = omega arith in
-    let z : (top + n) - top ≡ n = omega arith in
-    let m : min (top + n) top ≡ top = omega arith in
-    slots-step text code ns' es' (h + 1) (top + n) (omega arith)
-    ∙ ap (λ i. slot-of (spelling text (variable-at ns' i .name)) (type-of text code (variable-at ns' i .ty)) (slice text es' (variable-at ns' i .loans) ((top + n) - variable-at ns' i .loans)) ∷ slots-of text code ns' es' i (min (top + n) (variable-at ns' i .loans))) e
-    ∙ ap (λ u. slot-of (spelling text (u .name)) (type-of text code (u .ty)) (slice text es' (u .loans) ((top + n) - u .loans)) ∷ slots-of text code ns' es' h (min (top + n) (u .loans))) this
-    ∙ ap (λ b. slot-of (spelling text (v .name)) (type-of text code (v .ty)) (slice text es' b ((top + n) - b)) ∷ slots-of text code ns' es' h (min (top + n) b)) at
-    ∙ ap₂ (λ k b. slot-of (spelling text (v .name)) (type-of text code (v .ty)) (slice text es' top k) ∷ slots-of text code ns' es' h b) z m
-    ∙ ap₂ (λ l us. slot-of (spelling text (v .name)) (type-of text code (v .ty)) l ∷ us) copied (names ∙ slots-slices text code ns es' es h top top (omega arith) low)
+      let e : (h + 1) - 1 ≡ h = omega arith in
+      let z : (top + n) - top ≡ n = omega arith in
+      let m : min (top + n) top ≡ top = omega arith in
+      slots-step text code ns' es' (h + 1) (top + n) (omega arith)
+      ∙ ap (λ i. slot-of (spelling text (variable-at ns' i .name)) (type-of text code (variable-at ns' i .ty)) (slice text es' (variable-at ns' i .loans) ((top + n) - variable-at ns' i .loans)) ∷ slots-of text code ns' es' i (min (top + n) (variable-at ns' i .loans))) e
+      ∙ ap (λ u. slot-of (spelling text (u .name)) (type-of text code (u .ty)) (slice text es' (u .loans) ((top + n) - u .loans)) ∷ slots-of text code ns' es' h (min (top + n) (u .loans))) this
+      ∙ ap (λ b. slot-of (spelling text (v .name)) (type-of text code (v .ty)) (slice text es' b ((top + n) - b)) ∷ slots-of text code ns' es' h (min (top + n) b)) at
+      ∙ ap₂ (λ k b. slot-of (spelling text (v .name)) (type-of text code (v .ty)) (slice text es' top k) ∷ slots-of text code ns' es' h b) z m
+      ∙ ap₂ (λ l us. slot-of (spelling text (v .name)) (type-of text code (v .ty)) l ∷ us) copied (names ∙ slots-slices text code ns es' es h top top (omega arith) low)
 
 abbrev one-more : State → ValueType → State
 one-more h i = record { names = h .names + 1; loans = h .loans + (h .args - h .base); args = h .base; base = h .base; log = h .log; gaps = h .gaps; frames = h .frames; seen = h .seen; ends = h .ends; ty = i }
 
 -- the words with that slot stand for the state with that name
 pub name-stands : (d : Decls) (E : Lent) (h : State) (s : State2) → Stands d E h s → (ls ns : List ℕ) (x : Name) (b : Bool) (i : ValueType) → type-of (E .text) (E .code) i ≡ int
-  → variable-at ns (h .names) ≡ record { name = x; ty = h .ty; loans = h .loans; lent = b }
-  → slots-of (E .text) (E .code) ns ls (h .names) (h .loans) ≡ slots-of (E .text) (E .code) (E .names) ls (h .names) (h .loans)
-  → ((from m : ℕ) → from + m ≤ h .loans → slice (E .text) ls from m ≡ slice (E .text) (E .loans) from m)
-  → slice (E .text) ls (h .loans) (h .args - h .base) ≡ slice (E .text) (E .args) (h .base) (h .args - h .base)
-  → (W : Lent) → W ≡ with-names (with-loans E ls) ns
-  → Stands d W (record { names = h .names + 1; loans = h .loans + (h .args - h .base); args = h .base; base = h .base; log = h .log; gaps = h .gaps; frames = h .frames; seen = h .seen; ends = h .ends; ty = i }) (rest (slot-of (spelling (E .text) x) (s .ty) (s .ents) ∷ s .names) (s .log) (s .frames))
+    → variable-at ns (h .names) ≡ record { name = x; ty = h .ty; loans = h .loans; lent = b }
+    → slots-of (E .text) (E .code) ns ls (h .names) (h .loans) ≡ slots-of (E .text) (E .code) (E .names) ls (h .names) (h .loans)
+    → ((from m : ℕ) → from + m ≤ h .loans → slice (E .text) ls from m ≡ slice (E .text) (E .loans) from m)
+    → slice (E .text) ls (h .loans) (h .args - h .base) ≡ slice (E .text) (E .args) (h .base) (h .args - h .base)
+    → (W : Lent) → W ≡ with-names (with-loans E ls) ns
+    → Stands d W (record { names = h .names + 1; loans = h .loans + (h .args - h .base); args = h .base; base = h .base; log = h .log; gaps = h .gaps; frames = h .frames; seen = h .seen; ends = h .ends; ty = i }) (rest (slot-of (spelling (E .text) x) (s .ty) (s .ents) ∷ s .names) (s .log) (s .frames))
 name-stands d E h s st ls ns x b i t this names low copied W e = subst (λ (V : Lent). Stands d V (one-more h i) (rest (slot-of (spelling (E .text) x) (s .ty) (s .ents) ∷ s .names) (s .log) (s .frames))) (sym e) (record {
-    names = slots-enter (E .text) (E .code) (E .names) ns (E .loans) ls (E .args) (h .names) (h .loans) (h .base) (h .args - h .base) (record { name = x; ty = h .ty; loans = h .loans; lent = b }) this refl names low copied ∙ ap₂ (λ v vs. v ∷ vs) (ap₂ (slot-of (spelling (E .text) x)) (st .ty) (st .ents)) (st .names);
-    log = st .log;
-    gaps = st .gaps;
-    ty = t;
-    ents = (let z : h .base - h .base ≡ 0 = omega arith in ap (slice (E .text) (E .args) (h .base)) z);
-    frames = st .frames })
+  names = slots-enter (E .text) (E .code) (E .names) ns (E .loans) ls (E .args) (h .names) (h .loans) (h .base) (h .args - h .base) (record { name = x; ty = h .ty; loans = h .loans; lent = b }) this refl names low copied ∙ ap₂ (λ v vs. v ∷ vs) (ap₂ (slot-of (spelling (E .text) x)) (st .ty) (st .ents)) (st .names);
+  log = st .log;
+  gaps = st .gaps;
+  ty = t;
+  ents = (let z : h .base - h .base ≡ 0 = omega arith in ap (slice (E .text) (E .args) (h .base)) z);
+  frames = st .frames;
+})

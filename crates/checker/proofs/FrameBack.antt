@@ -55,7 +55,7 @@ frame-back (AMatch m) = ap₂ (λ a p. AMatch (record { names = m .names; access
 
 ten-same : {a b c d e f g h i j a' b' c' d' e' f' g' h' i' j' : ℕ} → a ≡ a' → b ≡ b' → c ≡ c' → d ≡ d' → e ≡ e' → f ≡ f' → g ≡ g' → h ≡ h' → i ≡ i' → j ≡ j' → frame-in a b c d e f g h i j ≡ frame-in a' b' c' d' e' f' g' h' i' j'
 ten-same {a} {b} {c} {d} {e} {f} {g} {h} {i} {j} {a'} {b'} {c'} {d'} {e'} {f'} {g'} {h'} {i'} {j'} p q r s t u v w x y =
-  ap₂ (λ m n. frame-in m n c d e f g h i j) p q ∙ ap₂ (λ m n. frame-in a' b' m n e f g h i j) r s ∙ ap₂ (λ m n. frame-in a' b' c' d' m n g h i j) t u ∙ ap₂ (λ m n. frame-in a' b' c' d' e' f' m n i j) v w ∙ ap₂ (λ m n. frame-in a' b' c' d' e' f' g' h' m n) x y
+    ap₂ (λ m n. frame-in m n c d e f g h i j) p q ∙ ap₂ (λ m n. frame-in a' b' m n e f g h i j) r s ∙ ap₂ (λ m n. frame-in a' b' c' d' m n g h i j) t u ∙ ap₂ (λ m n. frame-in a' b' c' d' e' f' m n i j) v w ∙ ap₂ (λ m n. frame-in a' b' c' d' e' f' g' h' m n) x y
 
 pub frame-this : (ws : List ℕ) (k : ℕ) (f : Frame) → ((j : ℕ) → j < 10 → getD ws (10 * k + j) 0 ≡ getD (numbers f) j 0) → frame-at ws k ≡ f
 frame-this ws k f h = ten-same (let e : 10 * k ≡ 10 * k + 0 = omega arith in ap (λ j. getD ws j 0) e ∙ h 0 (omega arith)) (h 1 (omega arith)) (h 2 (omega arith)) (h 3 (omega arith)) (h 4 (omega arith)) (h 5 (omega arith)) (h 6 (omega arith)) (h 7 (omega arith)) (h 8 (omega arith)) (h 9 (omega arith)) ∙ frame-back f

@@ -41,5 +41,6 @@ module _ (d : Decls) (text code args seen ends frames frames' : List ℕ) (b : �
     where
       go : (f : Frame) → f ≡ frame-at frames n → Is d text code args seen ends t f k js
       go f e = rw e i
+
       rest : (f : Frame) → f ≡ frame-at frames n → Framed d text code args seen ends frames' n (below (frame-at frames n) t) js → Framed d text code args seen ends frames' n (below f t) js
       rest f e ih = rw e ih

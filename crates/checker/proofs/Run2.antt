@@ -26,9 +26,11 @@ run2 p (i ∷ is) s h = go (is-end i) (λ t k. run2 p is t k)
   where
     Runs : Type 0
     Runs = (t : State2) → Inv t → present (exec-all p is (abs t)) ≡ present (exec2-all p is t)
+
     on : (u : Option State2) → Each u Inv → Runs → present (if-some (if-some u (λ t. some (abs t))) (λ t. exec-all p is t)) ≡ present (if-some u (λ t. exec2-all p is t))
     on none k r = refl
     on (some t) k r = r t k
+
     go : (c : Bool) → Runs → present (choose c (some (at-rest [] [])) (if-some (exec p i (abs s)) (λ t. exec-all p is t))) ≡ present (choose c (some s) (if-some (exec2 p i s) (λ t. exec2-all p is t)))
     go true r = refl
     go false r = ap (λ o. present (if-some o (λ t. exec-all p is t))) (agree-same _ _ (step-ok p i s h)) ∙ on (exec2 p i s) (agree-inv _ _ (step-ok p i s h)) r
@@ -36,28 +38,36 @@ run2 p (i ∷ is) s h = go (is-end i) (λ t k. run2 p is t k)
 pub pars-are : (qs : List Param) (vs : List Slot) → env2 (par-slots qs vs) [] ≡ pars-env qs (env2 vs [])
 pars-are [] vs = refl
 pars-are (q ∷ qs) vs = pars-are qs (slot-of (q .name) (q .ty) [] ∷ vs)
+
 abbrev New : List Param → List Slot → Type 0
 New [] vs = Unit {0}
 New (q ∷ qs) vs = not-in (q .name) (as-names vs) × New qs vs
+
 or-parts : (a b : Bool) → not (a || b) ≡ true → (a ≡ false) × (not b ≡ true)
 or-parts true b h = (sym h, absurd (subst T (sym h) tt))
 or-parts false b h = (refl, h)
+
 and-parts : (a b : Bool) → (a && b) ≡ true → (a ≡ true) × (b ≡ true)
 and-parts true b h = (refl, h)
 and-parts false b h = absurd (subst T (sym h) tt)
+
 still-new : (x : Lexeme) (v : Slot) (vs : List Slot) (qs : List Param) → v .name ≡ x → not (is-in x (names-of-pars qs)) ≡ true → New qs vs → New qs (v ∷ vs)
 still-new x v vs [] e h n = tt
 still-new x v vs (q ∷ qs) e h n = ((ap (same (q .name)) e ∙ same-sym (q .name) x ∙ or-parts (same x (q .name)) (is-in x (names-of-pars qs)) h .0, n .0), still-new x v vs qs e (or-parts (same x (q .name)) (is-in x (names-of-pars qs)) h .1) (n .1))
+
 pars-scoped : (qs : List Param) (vs : List Slot) → no-twice (names-of-pars qs) ≡ true → New qs vs → Scoped vs → Scoped (par-slots qs vs)
 pars-scoped [] vs h n d = d
 pars-scoped (q ∷ qs) vs h n d = pars-scoped qs (slot-of (q .name) (q .ty) [] ∷ vs) (and-parts (not (is-in (q .name) (names-of-pars qs))) (no-twice (names-of-pars qs)) h .1) (still-new (q .name) (slot-of (q .name) (q .ty) []) vs qs refl (and-parts (not (is-in (q .name) (names-of-pars qs))) (no-twice (names-of-pars qs)) h .0) (n .1)) ((n .0, d .0), (tt, d .1))
+
 none-old : (qs : List Param) → New qs []
 none-old [] = tt
 none-old (q ∷ qs) = (tt, none-old qs)
+
 nil : (vs : List Slot) → vs ++ [] ≡ vs
 nil vs = append-nil vs
+
 pub start-inv : (qs : List Param) → no-twice (names-of-pars qs) ≡ true → Inv (start qs)
 start-inv qs h = (subst Scoped (sym (nil (par-slots qs []))) (pars-scoped qs [] h (none-old qs) (tt, tt)), (tt, tt))
+
 pub start-is : (qs : List Param) → abs (start qs) ≡ at-rest (pars-env qs []) []
 start-is qs = ap (λ vs. at-rest (env2 vs []) []) (nil (par-slots qs [])) ∙ ap (λ g. at-rest g []) (pars-are qs [])
-

@@ -24,6 +24,7 @@ else-ok p t es us l (k-else vs n a ∷ ks) i = neither
 else-ok p t es us l (k-test vs n ∷ ks) i = neither
 else-ok p t es us l (k-loop vs n ws m ∷ ks) i = neither
 else-ok p t es us l (k-match vs n arms q ∷ ks) i = neither
+
 pub end-if-ok : (p : Ctx) (t : Ty) (es : List Ent) (us : List Slot) (l : Log) (ks : List Mark) → Inv (st t es us l ks) → Agrees (exec p i-end-if (abs (st t es us l ks))) (exec2 p i-end-if (st t es us l ks))
 end-if-ok p t es us l [] i = neither
 end-if-ok p t es us l (k-call ts u gs ∷ ks) i = neither
@@ -32,6 +33,7 @@ end-if-ok p t es us l (k-else vs n a ∷ ks) i = agree-some _ _ (ap (λ g. at-re
 end-if-ok p t es us l (k-test vs n ∷ ks) i = neither
 end-if-ok p t es us l (k-loop vs n ws m ∷ ks) i = neither
 end-if-ok p t es us l (k-match vs n arms q ∷ ks) i = neither
+
 pub do-ok : (p : Ctx) (t : Ty) (es : List Ent) (us : List Slot) (l : Log) (ks : List Mark) → Inv (st t es us l ks) → Agrees (exec p i-do (abs (st t es us l ks))) (exec2 p i-do (st t es us l ks))
 do-ok p t es us l [] i = neither
 do-ok p t es us l (k-call ts u gs ∷ ks) i = neither
@@ -40,6 +42,7 @@ do-ok p t es us l (k-else vs n a ∷ ks) i = neither
 do-ok p t es us l (k-test vs n ∷ ks) i = agree-only (same-ty t int) (same-ty t int) _ _ refl (λ e. agree-some _ _ refl (i .0, (tt, i .1 .1)))
 do-ok p t es us l (k-loop vs n ws m ∷ ks) i = neither
 do-ok p t es us l (k-match vs n arms q ∷ ks) i = neither
+
 pub end-while-ok : (p : Ctx) (t : Ty) (es : List Ent) (us : List Slot) (l : Log) (ks : List Mark) → Inv (st t es us l ks) → Agrees (exec p i-end-while (abs (st t es us l ks))) (exec2 p i-end-while (st t es us l ks))
 end-while-ok p t es us l [] i = neither
 end-while-ok p t es us l (k-call ts u gs ∷ ks) i = neither

@@ -15,8 +15,10 @@ pub record Whole : Type 0 where
   pub prog : Prog
   pub refs : List Lexeme
   pub ret : Ty
+
 abbrev pub ctx : Whole → Ctx
 ctx p = record { datas = p .prog .datas; sigs = sigs-of (p .prog .funs); refs = p .refs; ret = p .ret }
+
 pub sig-is : (fs : List Fn) (w : Lexeme) → sig-named (sigs-of fs) w ≡ if-some (fn-named fs w) (λ k. some (sig-of k))
 sig-is [] w = refl
 sig-is (f ∷ fs) w = go (same (f .name) w) (sig-is fs w)
@@ -24,12 +26,14 @@ sig-is (f ∷ fs) w = go (same (f .name) w) (sig-is fs w)
     go : (b : Bool) → sig-named (sigs-of fs) w ≡ if-some (fn-named fs w) (λ k. some (sig-of k)) → choose b (some (sig-of f)) (sig-named (sigs-of fs) w) ≡ if-some (choose b (some f) (fn-named fs w)) (λ k. some (sig-of k))
     go true h = refl
     go false h = h
+
 pub data-of-is : (p : Prog) (t : Ty) → data-of (data-only (p .datas)) t ≡ data-of p t
 data-of-is p int = refl
 data-of-is p (dat d) = refl
 data-of-is p (box t) = refl
 data-of-is p (ref t) = refl
 data-of-is p (mut t) = refl
+
 -- to look at a name, of a program only its data is asked
 pub looks-is : (p : Prog) (g : Env) (v : Var) (w : Access) (t : Ty) → looks-at (data-only (p .datas)) g v w t ≡ looks-at p g v w t
 looks-is p g v take int = refl

@@ -16,12 +16,16 @@ abbrev pub join : Env → List Env → Env
 join g [] = g
 join g (i ∷ []) = i
 join g (i ∷ j ∷ ks) = both i (join g (j ∷ ks))
+
 abbrev pub next-arm : Match → Lexeme → Ctor → Match
 next-arm q c k = record { scope = q .scope; way = q .way; loans = q .loans; data1 = q .data1; seen = q .seen ++ (c ∷ []); ways = q .ways; left = k .fields }
+
 abbrev pub fields-left : Match → List Ty → Match
 fields-left q ts = record { scope = q .scope; way = q .way; loans = q .loans; data1 = q .data1; seen = q .seen; ways = q .ways; left = ts }
+
 abbrev pub end-arm : Match → Env → Match
 end-arm q g = record { scope = q .scope; way = q .way; loans = q .loans; data1 = q .data1; seen = q .seen; ways = q .ways ++ (outer (q .scope) g ∷ []); left = [] }
+
 abbrev pub exec : Ctx → Instr → State → Option State
 exec p (i-num n) s = with-value (typed int [] (s .acc .env)) (s .frames)
 exec p (i-var x) s = with-value (if-some (there (s .acc .env) x) (λ v. value (held-of (s .frames)) (s .acc .env) v (v .ty))) (s .frames)
@@ -66,6 +70,7 @@ exec p (i-ctor c) s = none
 exec p (i-data d w) s = none
 exec p (i-param x) s = none
 exec p (i-fn f) s = none
+
 abbrev pub is-end : Instr → Bool
 is-end (i-num n) = false
 is-end (i-var x) = false
@@ -110,6 +115,7 @@ is-end (i-ctor c) = false
 is-end (i-data d w) = false
 is-end (i-param x) = false
 is-end (i-fn f) = false
+
 -- up to the end of the function; what stands behind it isn't looked at, nor are the names
 abbrev pub exec-all : Ctx → List Instr → State → Option State
 exec-all p [] s = none

@@ -58,12 +58,12 @@ match-at ws k = match-in (getD ws (10 * k + 1) 0) (getD ws (10 * k + 2) 0) (getD
 
 abbrev pub frame-in : ℕ → ℕ → ℕ → ℕ → ℕ → ℕ → ℕ → ℕ → ℕ → ℕ → Frame
 frame-in t a b c d e f g h i =
-  choose (eqb t 0) (ACall (call-in a b c d e f))
-  (choose (eqb t 1) (Then a b)
-  (choose (eqb t 2) (Else a)
-  (choose (eqb t 3) (Test a b)
-  (choose (eqb t 4) (Loop a b c d)
-  (AMatch (match-in a b c d e f g h i))))))
+    choose (eqb t 0) (ACall (call-in a b c d e f))
+    (choose (eqb t 1) (Then a b)
+    (choose (eqb t 2) (Else a)
+    (choose (eqb t 3) (Test a b)
+    (choose (eqb t 4) (Loop a b c d)
+    (AMatch (match-in a b c d e f g h i))))))
 
 abbrev pub frame-at : List ℕ → ℕ → Frame
 frame-at ws k = frame-in (getD ws (10 * k) 0) (getD ws (10 * k + 1) 0) (getD ws (10 * k + 2) 0) (getD ws (10 * k + 3) 0) (getD ws (10 * k + 4) 0) (getD ws (10 * k + 5) 0) (getD ws (10 * k + 6) 0) (getD ws (10 * k + 7) 0) (getD ws (10 * k + 8) 0) (getD ws (10 * k + 9) 0)

@@ -19,55 +19,69 @@ use Rattle.checker.specs.Marks.{Matching, entries, k-call, k-then, k-else, k-t
 -- a name that's there; one that's new
 abbrev pub there2 : List Slot → Log → Lexeme → Option Found
 there2 vs l x = if-some (seek vs x) (λ f. only-if (not (find l (length (f .older)))) (some f))
+
 abbrev pub fresh2 : List Slot → Lexeme → Bool
 fresh2 vs x = not (present (seek vs x))
+
 abbrev pub readable2 : List Ent → List Slot → Lexeme → Bool
 readable2 es vs x = readable (leaves (es ++ stack vs)) x
+
 abbrev pub free2 : List Ent → List Slot → Lexeme → Bool
 free2 es vs x = is-free (leaves (es ++ stack vs)) x
+
 -- a value; a value that was moved out of its name
 abbrev pub val : State2 → Ty → List Ent → State2
 val s t es = st t es (s .names) (s .log) (s .frames)
+
 abbrev pub moved : State2 → Found → Ty → State2
 moved s f t = st t [] (s .names) (gone-at (length (f .older)) true ∷ s .log) (s .frames)
+
 -- a new name: an entry of the log says it's there, whatever was said of its place before
 abbrev pub entered : State2 → Lexeme → Ty → List Ent → Log → State2
 entered s x t es l = rest (slot-of x t es ∷ s .names) (gone-at (length (scope s)) false ∷ l) (s .frames)
+
 abbrev pub value2 : State2 → Found → Ty → Option State2
 value2 s f int = only-if (readable2 (held2 (s .frames)) (scope s) (f .slot .name)) (some (val s int []))
 value2 s f (dat d) = only-if (free2 (held2 (s .frames)) (scope s) (f .slot .name)) (some (moved s f (dat d)))
 value2 s f (box t) = only-if (free2 (held2 (s .frames)) (scope s) (f .slot .name)) (some (moved s f (box t)))
 value2 s f (ref t) = only-if (readable2 (held2 (s .frames)) (scope s) (f .slot .name)) (some (val s (ref t) (via (length (f .older)) ∷ [])))
 value2 s f (mut t) = only-if (free2 (held2 (s .frames)) (scope s) (f .slot .name)) (some (val s (mut t) (leaf (loan (f .slot .name) true) ∷ [])))
+
 abbrev pub lent : State2 → Found → Ty → Option State2
 lent s f t = only-if (readable2 (held2 (s .frames)) (scope s) (f .slot .name)) (some (val s (ref t) (leaf (loan (f .slot .name) false) ∷ [])))
+
 abbrev pub shared2 : State2 → Found → Ty → Option State2
 shared2 s f int = lent s f int
 shared2 s f (dat d) = lent s f (dat d)
 shared2 s f (box t) = lent s f (box t)
 shared2 s f (ref t) = none
 shared2 s f (mut t) = lent s f t
+
 abbrev pub holds2 : Ty → List Ent → List Ent
 holds2 int es = []
 holds2 (dat d) es = []
 holds2 (box t) es = []
 holds2 (ref t) es = es
 holds2 (mut t) es = es
+
 abbrev pub stores2 : State2 → Lexeme → Ty → Option State2
 stores2 s x int = none
 stores2 s x (dat d) = none
 stores2 s x (box u) = none
 stores2 s x (ref u) = none
 stores2 s x (mut u) = only-if (owned u && (same-ty (s .ty) u && free2 [] (scope s) x)) (some (rest (s .names) (s .log) (s .frames)))
+
 abbrev pub goes-in2 : State2 → Found → Lexeme → Ty → Option State2
 goes-in2 s f x int = none
 goes-in2 s f x (dat d) = none
 goes-in2 s f x (box t) = none
 goes-in2 s f x (ref t) = if-some (boxed-in t) (λ u. only-if (readable2 [] (scope s) (f .slot .name)) (some (entered s x (ref u) (via (length (f .older)) ∷ []) (s .log))))
 goes-in2 s f x (mut t) = if-some (boxed-in t) (λ u. only-if (free2 [] (scope s) (f .slot .name)) (some (entered s x (mut u) (leaf (loan (f .slot .name) true) ∷ []) (s .log))))
+
 -- a match: the log goes on below the mark, with the move of what's taken apart
 abbrev pub matching : State2 → Access → Option Data → Option Ent → Log → Option State2
 matching s w o e l = if-some o (λ d. some (rest [] [] (k-match (s .names) l [] (record { way = w; part = e; data1 = d; seen = []; left = [] }) ∷ s .frames)))
+
 abbrev pub looks2 : Ctx → State2 → Found → Access → Ty → Option State2
 looks2 p s f take (dat d) = only-if (free2 [] (scope s) (f .slot .name)) (matching s take (data-named (p .datas) d) none (gone-at (length (f .older)) true ∷ s .log))
 looks2 p s f take int = none
@@ -84,14 +98,18 @@ looks2 p s f edit (dat d) = only-if (free2 [] (scope s) (f .slot .name)) (matchi
 looks2 p s f edit (box t) = none
 looks2 p s f edit (ref t) = none
 looks2 p s f edit (mut t) = only-if (free2 [] (scope s) (f .slot .name)) (matching s edit (data-of (data-only (p .datas)) t) (some (leaf (loan (f .slot .name) true))) (s .log))
+
 abbrev pub next-arm2 : Matching → Lexeme → Ctor → Matching
 next-arm2 q c k = record { way = q .way; part = q .part; data1 = q .data1; seen = q .seen ++ (c ∷ []); left = k .fields }
+
 abbrev pub fields-left2 : Matching → List Ty → Matching
 fields-left2 q ts = record { way = q .way; part = q .part; data1 = q .data1; seen = q .seen; left = ts }
+
 -- a round of a loop: nothing is gone in n that wasn't in l
 abbrev pub none-more2 : List Slot → Log → Log → Bool
 none-more2 [] l n = true
 none-more2 (v ∷ vs) l n = (find l (length vs) || not (find n (length vs))) && none-more2 vs l n
+
 -- what's given is of what the caller lent
 abbrev pub given : Ctx → State2 → Bool
 given p s = from-ents (p .refs) (scope s) (bits (p .refs) (scope s)) (s .ents)
@@ -140,13 +158,16 @@ exec2 p (i-ctor c) s = none
 exec2 p (i-data d w) s = none
 exec2 p (i-param x) s = none
 exec2 p (i-fn f) s = none
+
 -- to the end of a function
 abbrev pub exec2-all : Ctx → List Instr → State2 → Option State2
 exec2-all p [] s = none
 exec2-all p (i ∷ is) s = choose (is-end i) (some s) (if-some (exec2 p i s) (λ t. exec2-all p is t))
+
 -- parameters: names with no loans
 abbrev pub par-slots : List Param → List Slot → List Slot
 par-slots [] vs = vs
 par-slots (q ∷ qs) vs = par-slots qs (slot-of (q .name) (q .ty) [] ∷ vs)
+
 abbrev pub start : List Param → State2
 start qs = rest (par-slots qs []) [] []

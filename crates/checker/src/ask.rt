@@ -11,7 +11,6 @@ ghost use Rattle.checker.specs.Machine.{there2, readable2, free2};
 ghost use Rattle.checker.specs.Stands.{Decls, lent, Stands, Room};
 ghost use Rattle.checker.specs.Held.{«held-in», There, Low};
 ghost use Rattle.checker.specs.Outcome.{Holds};
-
 use crate::frames::Frame;
 use crate::state::Rule;
 use crate::state::Source;
@@ -28,7 +27,15 @@ use scope::names::seek;
 use types::ValueType;
 
 // Whether an argument that's already there has such a loan of a name.
-fn is_held(text: &[u8], args: &[u64], base: usize, frames: &[u64], count: usize, name: Name, asked: Asked) -> bool
+fn is_held(
+    text: &[u8],
+    args: &[u64],
+    base: usize,
+    frames: &[u64],
+    count: usize,
+    name: Name,
+    asked: Asked,
+) -> bool
     requires { ⌜ 2 * base ≤ length (now args) ⌝ ∗ ⌜ 10 * count ≤ length (now frames) ⌝ }
     ensures { λ r. ⌜ r ≡ «some-of» (asks asked (spelling (now (text .entry)) name)) (leaves («held-in» (now (text .entry)) (now (args .entry)) (now (frames .entry)) count base)) ⌝ }
 {
@@ -54,19 +61,47 @@ fn is_held(text: &[u8], args: &[u64], base: usize, frames: &[u64], count: usize,
 }
 
 // Whether a name in scope has such a loan of a name.
-pub fn is_lent_by_names(source: &Source<'_>, words: &Words<'_>, at: &State, name: Name, asked: Asked) -> bool
+pub fn is_lent_by_names(
+    source: &Source<'_>,
+    words: &Words<'_>,
+    at: &State,
+    name: Name,
+    asked: Asked,
+) -> bool
     requires { ⌜ Room (lent (now source) (now words)) (now at) ⌝ }
     ensures { λ r. ⌜ ((d : Decls) (s : State2) → Stands d (lent (now (source .entry)) (now (words .entry))) (now (at .entry)) s → r ≡ «some-of» (asks asked (spelling (now (now (source .entry) .text)) name)) (leaves (stack (Scope s)))) ⌝ }
 {
-    has_loan(source.text, words.names, at.names, words.loans, at.loans, name, asked)
+    has_loan(
+        source.text,
+        words.names,
+        at.names,
+        words.loans,
+        at.loans,
+        name,
+        asked,
+    )
 }
 
 // Whether an argument or a name in scope has such a loan of a name.
-pub fn is_lent_now(source: &Source<'_>, words: &Words<'_>, at: &State, name: Name, asked: Asked) -> bool
+pub fn is_lent_now(
+    source: &Source<'_>,
+    words: &Words<'_>,
+    at: &State,
+    name: Name,
+    asked: Asked,
+) -> bool
     requires { ⌜ Room (lent (now source) (now words)) (now at) ⌝ }
     ensures { λ r. ⌜ ((d : Decls) (s : State2) → Stands d (lent (now (source .entry)) (now (words .entry))) (now (at .entry)) s → r ≡ «some-of» (asks asked (spelling (now (now (source .entry) .text)) name)) (leaves (held2 (s .frames) ++ stack (Scope s)))) ⌝ }
 {
-    if is_held(source.text, words.args, at.base, words.frames, at.frames, name, asked) {
+    if is_held(
+        source.text,
+        words.args,
+        at.base,
+        words.frames,
+        at.frames,
+        name,
+        asked,
+    ) {
         return true;
     }
     is_lent_by_names(source, words, at, name, asked)
@@ -90,7 +125,12 @@ pub fn there(source: &Source<'_>, words: &Words<'_>, at: &State, name: Name) -> 
 }
 
 // The place of a name that's in scope, be it gone or not.
-pub fn place_of(source: &Source<'_>, words: &Words<'_>, at: &State, name: Name) -> Result<Place, Rule>
+pub fn place_of(
+    source: &Source<'_>,
+    words: &Words<'_>,
+    at: &State,
+    name: Name,
+) -> Result<Place, Rule>
     requires { ⌜ Room (lent (now source) (now words)) (now at) ⌝ }
     ensures is { λ r. ⌜ ((d : Decls) (s : State2) → Stands d (lent (now (source .entry)) (now (words .entry))) (now (at .entry)) s → There (now (now (source .entry) .text)) (now (now (source .entry) .code)) (now (now (words .entry) .names)) (now (at .entry) .names) (spelling (now (now (source .entry) .text)) name) (Seek (Scope s) (spelling (now (now (source .entry) .text)) name)) r) ⌝ }
     ensures within { λ r. ⌜ Low (now (at .entry) .names) r ⌝ }
@@ -132,7 +172,12 @@ pub fn free(source: &Source<'_>, words: &Words<'_>, at: &State, name: Name) -> R
 }
 
 // The same in a statement, where no argument is under way.
-pub fn readable_by_names(source: &Source<'_>, words: &Words<'_>, at: &State, name: Name) -> Result<(), Rule>
+pub fn readable_by_names(
+    source: &Source<'_>,
+    words: &Words<'_>,
+    at: &State,
+    name: Name,
+) -> Result<(), Rule>
     requires { ⌜ Room (lent (now source) (now words)) (now at) ⌝ }
     ensures { λ r. ⌜ ((d : Decls) (s : State2) → Stands d (lent (now (source .entry)) (now (words .entry))) (now (at .entry)) s → Holds (readable2 [] (Scope s) (spelling (now (now (source .entry) .text)) name)) r) ⌝ }
 {
@@ -142,7 +187,12 @@ pub fn readable_by_names(source: &Source<'_>, words: &Words<'_>, at: &State, nam
     Ok(())
 }
 
-pub fn free_by_names(source: &Source<'_>, words: &Words<'_>, at: &State, name: Name) -> Result<(), Rule>
+pub fn free_by_names(
+    source: &Source<'_>,
+    words: &Words<'_>,
+    at: &State,
+    name: Name,
+) -> Result<(), Rule>
     requires { ⌜ Room (lent (now source) (now words)) (now at) ⌝ }
     ensures { λ r. ⌜ ((d : Decls) (s : State2) → Stands d (lent (now (source .entry)) (now (words .entry))) (now (at .entry)) s → Holds (free2 [] (Scope s) (spelling (now (now (source .entry) .text)) name)) r) ⌝ }
 {

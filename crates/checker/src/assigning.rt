@@ -14,7 +14,6 @@ ghost use Rattle.checker.specs.Frames.{Ctx};
 ghost use Rattle.checker.specs.Marks.{State2, rest, scope as Scope};
 ghost use Rattle.checker.specs.Machine.{exec2, free2, stores2};
 ghost use Rattle.checker.specs.Stands.{Decls, lent, Stands, Room, Steps};
-
 use crate::ask::free_by_names;
 use crate::ask::place_of;
 use crate::ask::there;
@@ -35,7 +34,13 @@ use types::same_type;
 use types::shape;
 
 // The value goes to a name that's free, which is there again.
-fn put_back(source: &Source<'_>, words: &mut Words<'_>, at: &mut State, name: Name, place: Place) -> Result<(), Rule>
+fn put_back(
+    source: &Source<'_>,
+    words: &mut Words<'_>,
+    at: &mut State,
+    name: Name,
+    place: Place,
+) -> Result<(), Rule>
     requires { ⌜ Room (lent (now source) (now words)) (now at) ⌝ }
     ensures { λ r. ⌜ ((d : Decls) (s : State2) (f : Found) → length (f .older) ≡ place .0 → Stands d (lent (now (source .entry)) (now (words .entry))) (now (at .entry)) s → Steps d (lent (now (source .entry)) (now (words .exit))) (now (at .exit)) («only-if» (free2 [] (Scope s) (spelling (now (now (source .entry) .text)) name)) (Just (rest (s .names) («gone-at» (length (f .older)) false ∷ s .log) (s .frames)))) r) ⌝ }
 {
@@ -46,7 +51,12 @@ fn put_back(source: &Source<'_>, words: &mut Words<'_>, at: &mut State, name: Na
 }
 
 // x = e: x is owned and free, and of the value's type.
-pub fn assign(source: &Source<'_>, words: &mut Words<'_>, at: &mut State, name: Name) -> Result<(), Rule>
+pub fn assign(
+    source: &Source<'_>,
+    words: &mut Words<'_>,
+    at: &mut State,
+    name: Name,
+) -> Result<(), Rule>
     requires { ⌜ Room (lent (now source) (now words)) (now at) ⌝ }
     ensures { λ r. ⌜ ((d : Decls) (p : Ctx) (s : State2) → Stands d (lent (now (source .entry)) (now (words .entry))) (now (at .entry)) s → Steps d (lent (now (source .entry)) (now (words .exit))) (now (at .exit)) (exec2 p («i-assign» (spelling (now (now (source .entry) .text)) name)) s) r) ⌝ }
 {
@@ -72,7 +82,13 @@ fn let_go(source: &Source<'_>, words: &Words<'_>, at: &mut State, name: Name) ->
 }
 
 // The value is of the type that lies behind a name, and that's owned.
-fn store_in(source: &Source<'_>, words: &Words<'_>, at: &mut State, name: Name, inner: ValueType) -> Result<(), Rule>
+fn store_in(
+    source: &Source<'_>,
+    words: &Words<'_>,
+    at: &mut State,
+    name: Name,
+    inner: ValueType,
+) -> Result<(), Rule>
     requires { ⌜ Room (lent (now source) (now words)) (now at) ⌝ }
     ensures { λ r. ⌜ ((d : Decls) (s : State2) (u : Ty) → «type-of» (now (now (source .entry) .text)) (now (now (source .entry) .code)) inner ≡ u → Stands d (lent (now (source .entry)) (now (words .entry))) (now (at .entry)) s → Steps d (lent (now (source .entry)) (now (words .entry))) (now (at .exit)) (stores2 s (spelling (now (now (source .entry) .text)) name) (mut u)) r) ⌝ }
 {

@@ -7,7 +7,6 @@ ghost use Rattle.checker.specs.Frames.{Ctx};
 ghost use Rattle.checker.specs.Marks.{State2, Mark, rest, «names-of», scope as Scope};
 ghost use Rattle.checker.specs.Machine.{exec2};
 ghost use Rattle.checker.specs.Stands.{Decls, lent, «lent-in», Stands, Steps, Left, Is, Gapped, whole, tops, below};
-
 use crate::frames::Frame;
 use crate::state::Rule;
 use crate::state::Source;

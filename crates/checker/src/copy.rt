@@ -4,7 +4,6 @@ ghost use mathlib.Core.List.{List};
 ghost use lib.ListN.{length};
 ghost use Rattle.scope.specs.Loans.{slice, «loan-at»};
 ghost use Rattle.checker.specs.Stands.{«lent-in», «with-loans»};
-
 use crate::state::Words;
 use scope::loans::Entry;
 use scope::loans::load_loan;

@@ -10,7 +10,6 @@ ghost use Rattle.checker.specs.Marks.{State2, rest, scope as Scope};
 ghost use Rattle.checker.specs.Machine.{exec2, entered, fresh2};
 ghost use Rattle.checker.specs.Stands.{Decls, lent, «lent-in», Stands, Room, Steps};
 ghost use Rattle.checker.specs.Outcome.{Holds};
-
 use crate::copy::copy_loans;
 use crate::state::Rule;
 use crate::state::Source;
@@ -67,7 +66,13 @@ pub fn enter(words: &mut Words<'_>, at: &mut State, name: Name, of_caller: bool)
 }
 
 // let x = e: x is new, and has the value's loans.
-pub fn bind(source: &Source<'_>, words: &mut Words<'_>, at: &mut State, name: Name, of_caller: bool) -> Result<(), Rule>
+pub fn bind(
+    source: &Source<'_>,
+    words: &mut Words<'_>,
+    at: &mut State,
+    name: Name,
+    of_caller: bool,
+) -> Result<(), Rule>
     requires { ⌜ Room (lent (now source) (now words)) (now at) ⌝ }
     ensures { λ r. ⌜ ((d : Decls) (p : Ctx) (s : State2) → Stands d (lent (now (source .entry)) (now (words .entry))) (now (at .entry)) s → Steps d (lent (now (source .entry)) (now (words .exit))) (now (at .exit)) (exec2 p («i-bind» (spelling (now (now (source .entry) .text)) name)) s) r) ⌝ }
 {

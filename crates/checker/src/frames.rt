@@ -2,7 +2,6 @@ ghost use Prim.Native.Nat.{ℕ, _+_, _*_, _<_, _≤_};
 ghost use mathlib.Core.Path.{_≡_};
 ghost use lib.ListN.{length};
 ghost use Rattle.checker.specs.FrameWords.{«frame-at», «call-at», «match-at», numbers, «access-in», «access-number», «part-in», «part-number», «part-operand»};
-
 use code::Access;
 use lexer::Name;
 use scope::loans::Entry;
@@ -158,12 +157,34 @@ impl Frame {
         ensures { λ r. ⌜ r ≡ numbers self ⌝ }
     {
         match self {
-            Frame::Call(c) => [0, bit(c.params), c.next as u64, c.end as u64, base_number(c.makes), base_operand(c.makes), c.base as u64, 0, 0, 0],
+            Frame::Call(c) => [
+                0,
+                bit(c.params),
+                c.next as u64,
+                c.end as u64,
+                base_number(c.makes),
+                base_operand(c.makes),
+                c.base as u64,
+                0,
+                0,
+                0,
+            ],
             Frame::Then(a, b) => [1, a as u64, b as u64, 0, 0, 0, 0, 0, 0, 0],
             Frame::Else(a) => [2, a as u64, 0, 0, 0, 0, 0, 0, 0, 0],
             Frame::Test(a, b) => [3, a as u64, b as u64, 0, 0, 0, 0, 0, 0, 0],
             Frame::Loop(a, b, c, d) => [4, a as u64, b as u64, c as u64, d as u64, 0, 0, 0, 0, 0],
-            Frame::Match(m) => [5, m.names as u64, access_number(m.access), part_number(m.part), part_operand(m.part), m.data as u64, m.seen as u64, m.ends as u64, m.next as u64, m.end as u64],
+            Frame::Match(m) => [
+                5,
+                m.names as u64,
+                access_number(m.access),
+                part_number(m.part),
+                part_operand(m.part),
+                m.data as u64,
+                m.seen as u64,
+                m.ends as u64,
+                m.next as u64,
+                m.end as u64,
+            ],
         }
     }
 

@@ -17,7 +17,6 @@ ghost use Rattle.checker.specs.Marks.{State2, scope as Scope, held2};
 ghost use Rattle.checker.specs.Machine.{exec2, value2, moved, free2, val, lent as Lent2};
 ghost use Rattle.scope.specs.Loans.{leaf};
 ghost use Rattle.checker.specs.Stands.{Decls, lent, Stands, Room, Steps, Left};
-
 use crate::ask::free;
 use crate::ask::readable;
 use crate::ask::there;
@@ -96,7 +95,14 @@ fn copied(source: &Source<'_>, words: &Words<'_>, at: &mut State, name: Name) ->
 }
 
 // A name of what's owned: it's moved.
-fn moved_out(source: &Source<'_>, words: &mut Words<'_>, at: &mut State, name: Name, place: Place, ty: ValueType) -> Result<(), Rule>
+fn moved_out(
+    source: &Source<'_>,
+    words: &mut Words<'_>,
+    at: &mut State,
+    name: Name,
+    place: Place,
+    ty: ValueType,
+) -> Result<(), Rule>
     requires { ⌜ Room (lent (now source) (now words)) (now at) ⌝ }
     ensures { λ r. ⌜ ((d : Decls) (s : State2) (f : Found) (t : Ty) → f .slot .name ≡ spelling (now (now (source .entry) .text)) name → length (f .older) ≡ place .0 → «type-of» (now (now (source .entry) .text)) (now (now (source .entry) .code)) ty ≡ t → Stands d (lent (now (source .entry)) (now (words .entry))) (now (at .entry)) s → Steps d (lent (now (source .entry)) (now (words .exit))) (now (at .exit)) («only-if» (free2 (held2 (s .frames)) (Scope s) (f .slot .name)) (Just (moved s f t))) r) ⌝ }
 {
@@ -107,7 +113,14 @@ fn moved_out(source: &Source<'_>, words: &mut Words<'_>, at: &mut State, name: N
 }
 
 // A name that is a shared reference: the same loans again.
-fn shared_again(source: &Source<'_>, words: &mut Words<'_>, at: &mut State, name: Name, place: Place, ty: ValueType) -> Result<(), Rule>
+fn shared_again(
+    source: &Source<'_>,
+    words: &mut Words<'_>,
+    at: &mut State,
+    name: Name,
+    place: Place,
+    ty: ValueType,
+) -> Result<(), Rule>
     requires { ⌜ Room (lent (now source) (now words)) (now at) ⌝ }
     ensures { λ r. ⌜ ((d : Decls) (s : State2) (f : Found) (t : Ty) → f .slot .name ≡ spelling (now (now (source .entry) .text)) name → length (f .older) ≡ place .0 → «type-of» (now (now (source .entry) .text)) (now (now (source .entry) .code)) ty ≡ ref t → Stands d (lent (now (source .entry)) (now (words .entry))) (now (at .entry)) s → Steps d (lent (now (source .entry)) (now (words .exit))) (now (at .exit)) (value2 s f (ref t)) r) ⌝ }
 {
@@ -117,7 +130,13 @@ fn shared_again(source: &Source<'_>, words: &mut Words<'_>, at: &mut State, name
 }
 
 // A name that was lent alone: it's lent on.
-fn lent_on(source: &Source<'_>, words: &mut Words<'_>, at: &mut State, name: Name, ty: ValueType) -> Result<(), Rule>
+fn lent_on(
+    source: &Source<'_>,
+    words: &mut Words<'_>,
+    at: &mut State,
+    name: Name,
+    ty: ValueType,
+) -> Result<(), Rule>
     requires { ⌜ Room (lent (now source) (now words)) (now at) ⌝ }
     ensures { λ r. ⌜ ((d : Decls) (s : State2) (f : Found) (t : Ty) → f .slot .name ≡ spelling (now (now (source .entry) .text)) name → «type-of» (now (now (source .entry) .text)) (now (now (source .entry) .code)) ty ≡ mut t → Stands d (lent (now (source .entry)) (now (words .entry))) (now (at .entry)) s → Steps d (lent (now (source .entry)) (now (words .exit))) (now (at .exit)) (value2 s f (mut t)) r) ⌝ }
 {
@@ -127,7 +146,12 @@ fn lent_on(source: &Source<'_>, words: &mut Words<'_>, at: &mut State, name: Nam
 }
 
 // A name as a value.
-pub fn use_name(source: &Source<'_>, words: &mut Words<'_>, at: &mut State, name: Name) -> Result<(), Rule>
+pub fn use_name(
+    source: &Source<'_>,
+    words: &mut Words<'_>,
+    at: &mut State,
+    name: Name,
+) -> Result<(), Rule>
     requires { ⌜ Room (lent (now source) (now words)) (now at) ⌝ }
     ensures { λ r. ⌜ ((d : Decls) (p : Ctx) (s : State2) → Stands d (lent (now (source .entry)) (now (words .entry))) (now (at .entry)) s → Steps d (lent (now (source .entry)) (now (words .exit))) (now (at .exit)) (exec2 p («i-var» (spelling (now (now (source .entry) .text)) name)) s) r) ⌝ }
 {
@@ -143,7 +167,13 @@ pub fn use_name(source: &Source<'_>, words: &mut Words<'_>, at: &mut State, name
 }
 
 // A shared loan of what a name has.
-fn share_of(source: &Source<'_>, words: &mut Words<'_>, at: &mut State, name: Name, ty: ValueType) -> Result<(), Rule>
+fn share_of(
+    source: &Source<'_>,
+    words: &mut Words<'_>,
+    at: &mut State,
+    name: Name,
+    ty: ValueType,
+) -> Result<(), Rule>
     requires { ⌜ Room (lent (now source) (now words)) (now at) ⌝ }
     ensures { λ r. ⌜ ((d : Decls) (s : State2) (f : Found) (t : Ty) → f .slot .name ≡ spelling (now (now (source .entry) .text)) name → ty .outer ≡ Plain → «type-of» (now (now (source .entry) .text)) (now (now (source .entry) .code)) ty ≡ t → Stands d (lent (now (source .entry)) (now (words .entry))) (now (at .entry)) s → Steps d (lent (now (source .entry)) (now (words .exit))) (now (at .exit)) (Lent2 s f t) r) ⌝ }
 {
@@ -153,7 +183,12 @@ fn share_of(source: &Source<'_>, words: &mut Words<'_>, at: &mut State, name: Na
 }
 
 // &x: of what is owned, or again of what was lent alone.
-pub fn share(source: &Source<'_>, words: &mut Words<'_>, at: &mut State, name: Name) -> Result<(), Rule>
+pub fn share(
+    source: &Source<'_>,
+    words: &mut Words<'_>,
+    at: &mut State,
+    name: Name,
+) -> Result<(), Rule>
     requires { ⌜ Room (lent (now source) (now words)) (now at) ⌝ }
     ensures { λ r. ⌜ ((d : Decls) (p : Ctx) (s : State2) → Stands d (lent (now (source .entry)) (now (words .entry))) (now (at .entry)) s → Steps d (lent (now (source .entry)) (now (words .exit))) (now (at .exit)) (exec2 p («i-share» (spelling (now (now (source .entry) .text)) name)) s) r) ⌝ }
 {
@@ -169,7 +204,13 @@ pub fn share(source: &Source<'_>, words: &mut Words<'_>, at: &mut State, name: N
 }
 
 // A loan, alone, of what a name has.
-fn lend_of(source: &Source<'_>, words: &mut Words<'_>, at: &mut State, name: Name, ty: ValueType) -> Result<(), Rule>
+fn lend_of(
+    source: &Source<'_>,
+    words: &mut Words<'_>,
+    at: &mut State,
+    name: Name,
+    ty: ValueType,
+) -> Result<(), Rule>
     requires { ⌜ Room (lent (now source) (now words)) (now at) ⌝ }
     ensures { λ r. ⌜ ((d : Decls) (s : State2) (t : Ty) → ty .outer ≡ Plain → «type-of» (now (now (source .entry) .text)) (now (now (source .entry) .code)) ty ≡ t → Stands d (lent (now (source .entry)) (now (words .entry))) (now (at .entry)) s → Steps d (lent (now (source .entry)) (now (words .exit))) (now (at .exit)) («only-if» (free2 (held2 (s .frames)) (Scope s) (spelling (now (now (source .entry) .text)) name)) (Just (val s (mut t) (leaf (loan (spelling (now (now (source .entry) .text)) name) true) ∷ [])))) r) ⌝ }
 {
@@ -179,7 +220,12 @@ fn lend_of(source: &Source<'_>, words: &mut Words<'_>, at: &mut State, name: Nam
 }
 
 // &mut x: of what is owned and free.
-pub fn lend(source: &Source<'_>, words: &mut Words<'_>, at: &mut State, name: Name) -> Result<(), Rule>
+pub fn lend(
+    source: &Source<'_>,
+    words: &mut Words<'_>,
+    at: &mut State,
+    name: Name,
+) -> Result<(), Rule>
     requires { ⌜ Room (lent (now source) (now words)) (now at) ⌝ }
     ensures { λ r. ⌜ ((d : Decls) (p : Ctx) (s : State2) → Stands d (lent (now (source .entry)) (now (words .entry))) (now (at .entry)) s → Steps d (lent (now (source .entry)) (now (words .exit))) (now (at .exit)) (exec2 p («i-lend» (spelling (now (now (source .entry) .text)) name)) s) r) ⌝ }
 {

@@ -9,7 +9,6 @@ ghost use Rattle.scope.specs.Loans.{«ent-of»};
 ghost use Rattle.checker.specs.Marks.{State2, st};
 ghost use Rattle.checker.specs.Machine.{val};
 ghost use Rattle.checker.specs.Stands.{Decls, Lent, «lent-in», Stands, Room};
-
 use crate::state::State;
 use crate::state::Words;
 use scope::loans::Entry;
@@ -54,5 +53,9 @@ pub fn int() -> ValueType
     ensures is { λ r. ⌜ ((text code : List ℕ) → «type-of» text code r ≡ Int) ⌝ }
     ensures boxes { λ r. ⌜ r .boxes ≡ 0 ⌝ }
 {
-    ValueType { outer: Outer::Plain, boxes: 0, base: Base::Number }
+    ValueType {
+        outer: Outer::Plain,
+        boxes: 0,
+        base: Base::Number,
+    }
 }

@@ -25,4 +25,4 @@ returns-then-not-same-type c = λ d p s st. on-refused d (lent (c .args .source 
 
 pub returns : need.returns
 returns c = λ d p s st. on-there d (lent (c .args .source .now) (c .put-back .last .words)) (c .put-back .last .at) (c .args .source .now .text .now) (c .args .source .now .code .now) (c .args .words .now .names .now) (c .args .at .now .names) (spelling (c .args .source .now .text .now) (c .args .name)) (seek (scope s) (spelling (c .args .source .now .text .now) (c .args .name))) (c .in-Continue-place .place) (λ f. only-if (owned (f .slot .ty) && (same-ty (s .ty) (f .slot .ty) && free2 [] (scope s) (spelling (c .args .source .now .text .now) (c .args .name)))) (some (rest (s .names) (gone-at (length (f .older)) false ∷ s .log) (s .frames)))) (c .put-back .result) (c .in-Continue-place .ensures tt .is d s st) (λ f a. steps-and d (lent (c .args .source .now) (c .put-back .last .words)) (c .put-back .last .at) (owned (f .slot .ty)) (same-ty (s .ty) (f .slot .ty) && free2 [] (scope s) (spelling (c .args .source .now .text .now) (c .args .name))) (some (rest (s .names) (gone-at (length (f .older)) false ∷ s .log) (s .frames))) (c .put-back .result) (ap owned (a .1 ∙ sym (ap (type-of (c .args .source .now .text .now) (c .args .source .now .code .now)) (c .type-at-ty .ensures))) ∙ sym (c .is-owned .ensures (c .args .source .now .text .now)) ∙ c .if-not-is-owned .left)
-  (steps-and d (lent (c .args .source .now) (c .put-back .last .words)) (c .put-back .last .at) (same-ty (s .ty) (f .slot .ty)) (free2 [] (scope s) (spelling (c .args .source .now .text .now) (c .args .name))) (some (rest (s .names) (gone-at (length (f .older)) false ∷ s .log) (s .frames))) (c .put-back .result) (sym (ap (λ t. same-ty t (f .slot .ty)) (st .ty)) ∙ ap (same-ty (type-of (c .args .source .now .text .now) (c .args .source .now .code .now) (c .args .at .now .ty))) (a .1 ∙ sym (ap (type-of (c .args .source .now .text .now) (c .args .source .now .code .now)) (c .type-at-ty .ensures))) ∙ sym (c .same-type .ensures) ∙ c .if-not-same-type .left) (c .put-back .ensures d s f (a .2) st)))
+    (steps-and d (lent (c .args .source .now) (c .put-back .last .words)) (c .put-back .last .at) (same-ty (s .ty) (f .slot .ty)) (free2 [] (scope s) (spelling (c .args .source .now .text .now) (c .args .name))) (some (rest (s .names) (gone-at (length (f .older)) false ∷ s .log) (s .frames))) (c .put-back .result) (sym (ap (λ t. same-ty t (f .slot .ty)) (st .ty)) ∙ ap (same-ty (type-of (c .args .source .now .text .now) (c .args .source .now .code .now) (c .args .at .now .ty))) (a .1 ∙ sym (ap (type-of (c .args .source .now .text .now) (c .args .source .now .code .now)) (c .type-at-ty .ensures))) ∙ sym (c .same-type .ensures) ∙ c .if-not-same-type .left) (c .put-back .ensures d s f (a .2) st)))

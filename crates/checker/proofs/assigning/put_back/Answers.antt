@@ -19,4 +19,4 @@ use Rattle.checker.proofs.assigning.put_back.Needs as need
 
 pub returns : need.returns
 returns c = λ d s f l st. only-left d (lent (c .args .source .now) (c .set-gone .last .words)) (c .set-gone .last .at) (free2 [] (scope s) (spelling (c .args .source .now .text .now) (c .args .name))) (some (rest (s .names) (gone-at (length (f .older)) false ∷ s .log) (s .frames))) (c .in-Continue-free-by-names .ensures tt d s st)
-  (subst (λ (k : ℕ). Stands d (lent (c .args .source .now) (c .set-gone .last .words)) (c .set-gone .last .at) (state int [] (s .names) (gone-at k false ∷ s .log) (s .frames))) (sym l) (c .set-gone .ensures .stands d (c .args .source .now .text .now) (c .args .source .now .code .now) _ (c .set-value .ensures .stands d (lent (c .args .source .now) (c .args .words .now)) s int (c .int .ensures .is _ _) st)))
+    (subst (λ (k : ℕ). Stands d (lent (c .args .source .now) (c .set-gone .last .words)) (c .set-gone .last .at) (state int [] (s .names) (gone-at k false ∷ s .log) (s .frames))) (sym l) (c .set-gone .ensures .stands d (c .args .source .now .text .now) (c .args .source .now .code .now) _ (c .set-value .ensures .stands d (lent (c .args .source .now) (c .args .words .now)) s int (c .int .ensures .is _ _) st)))

@@ -25,4 +25,4 @@ returns-then-not-same-type c = λ d s u q st. none-second (owned u) (same-ty (s 
 
 pub returns : need.returns
 returns c = λ d s u q st. steps-and d (lent (c .args .source .now) (c .args .words .now)) (c .let-go .last .at) (owned u) (same-ty (s .ty) u && free2 [] (scope s) (spelling (c .args .source .now .text .now) (c .args .name))) (some (rest (s .names) (s .log) (s .frames))) (c .let-go .result) (sym (ap owned q) ∙ sym (c .is-owned .ensures (c .args .source .now .text .now)) ∙ c .if-not-is-owned .left)
-  (steps-and d (lent (c .args .source .now) (c .args .words .now)) (c .let-go .last .at) (same-ty (s .ty) u) (free2 [] (scope s) (spelling (c .args .source .now .text .now) (c .args .name))) (some (rest (s .names) (s .log) (s .frames))) (c .let-go .result) (sym (ap (λ t. same-ty t u) (st .ty)) ∙ sym (ap (same-ty (type-of (c .args .source .now .text .now) (c .args .source .now .code .now) (c .args .at .now .ty))) q) ∙ sym (c .same-type .ensures) ∙ c .if-not-same-type .left) (c .let-go .ensures d s st))
+    (steps-and d (lent (c .args .source .now) (c .args .words .now)) (c .let-go .last .at) (same-ty (s .ty) u) (free2 [] (scope s) (spelling (c .args .source .now .text .now) (c .args .name))) (some (rest (s .names) (s .log) (s .frames))) (c .let-go .result) (sym (ap (λ t. same-ty t u) (st .ty)) ∙ sym (ap (same-ty (type-of (c .args .source .now .text .now) (c .args .source .now .code .now) (c .args .at .now .ty))) q) ∙ sym (c .same-type .ensures) ∙ c .if-not-same-type .left) (c .let-go .ensures d s st))

@@ -8,6 +8,6 @@ use Rattle.checker.proofs.copy.copy_loans.Given as given
 
 abbrev pub Inv-loop-i : given.InvT-loop-i
 Inv-loop-i l = ((text : List ℕ) → slice text (l .words .loans .now) (l .to) (l .i) ≡ slice text (l .entry .words .args .now) (l .base) (l .i))
-  × ((text : List ℕ) (from n : ℕ) → from + n ≤ l .to → slice text (l .words .loans .now) from n ≡ slice text (l .entry .words .loans .now) from n)
-  × (length (l .words .loans .now) ≡ length (l .entry .words .loans .now))
-  × ((text code : List ℕ) → lent-in text code (l .words) ≡ with-loans (lent-in text code (l .entry .words)) (l .words .loans .now))
+    × ((text : List ℕ) (from n : ℕ) → from + n ≤ l .to → slice text (l .words .loans .now) from n ≡ slice text (l .entry .words .loans .now) from n)
+    × (length (l .words .loans .now) ≡ length (l .entry .words .loans .now))
+    × ((text code : List ℕ) → lent-in text code (l .words) ≡ with-loans (lent-in text code (l .entry .words)) (l .words .loans .now))

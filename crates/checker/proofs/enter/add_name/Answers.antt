@@ -11,15 +11,15 @@ use Rattle.checker.proofs.enter.add_name.Needs as need
 pub returns : need.returns
 returns c = record {
   stands = λ d text code s st.
-    let w = c .args .words .now in
-    let h = c .args .at .now in
-    let ls = c .copy-loans .last .words .loans .now in
-    let ns = c .store .last .words in
-    name-stands d (lent-in text code w) h s st ls ns (c .args .name) (c .args .of-caller) (c .int-at .result) (c .int-at .ensures .is text code) (c .store .ensures .this)
+      let w = c .args .words .now in
+      let h = c .args .at .now in
+      let ls = c .copy-loans .last .words .loans .now in
+      let ns = c .store .last .words in
+      name-stands d (lent-in text code w) h s st ls ns (c .args .name) (c .args .of-caller) (c .int-at .result) (c .int-at .ensures .is text code) (c .store .ensures .this)
       (c .store .ensures .below text code ls (h .names) (h .loans) (omega arith) ∙ ap (λ x. slots-of text code (x .names) ls (h .names) (h .loans)) (c .copy-loans .ensures .kept text code))
       (c .copy-loans .ensures .below text) (c .copy-loans .ensures .copied text)
       (with-names (lent-in text code (c .copy-loans .last .words)) ns) (ap (λ x. with-names x ns) (c .copy-loans .ensures .kept text code));
-  log = (refl, ap (λ x. x .log) (c .copy-loans .ensures .kept [] []))
+  log = (refl, ap (λ x. x .log) (c .copy-loans .ensures .kept [] []));
 }
 
 pub store-requires : need.store-requires
