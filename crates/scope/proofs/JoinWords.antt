@@ -54,21 +54,27 @@ over-part ws i b s (suc n) k l h = here (eqb (s + n) i) refl (over-part ws i b s
   where
     New : Log
     New = part (set ws (2 * i + 1) b) s n ++ l
+
     Old : Log
     Old = part ws s n ++ l
+
     Goal : Type 0
     Goal = (find (part (set ws (2 * i + 1) b) s (suc n) ++ l) k ≡ find (part ws s (suc n) ++ l) k) ⊎ ((getD ws (2 * i) 0 ≡ k) × (find (part (set ws (2 * i + 1) b) s (suc n) ++ l) k ≡ eqb b 1))
+
     -- the place is what it was, in any case
     place : getD (set ws (2 * i + 1) b) (2 * (s + n)) 0 ≡ getD ws (2 * (s + n)) 0
     place = getD-set-other ws (2 * i + 1) (2 * (s + n)) b 0 (omega arith)
+
     at : (c d : Bool) → getD (set ws (2 * i + 1) b) (2 * (s + n) + 1) 0 ≡ getD ws (2 * (s + n) + 1) 0 → eqb (getD ws (2 * (s + n)) 0) k ≡ c → (find New k ≡ find Old k) ⊎ ((getD ws (2 * i) 0 ≡ k) × (find New k ≡ eqb b 1)) → Goal
     at true d e t ih = inl (ap₂ (λ p g. choose (eqb p k) (eqb g 1) (find New k)) place e ∙ ap (λ c. choose c (eqb (getD ws (2 * (s + n) + 1) 0) 1) (find New k)) t ∙ sym (ap (λ c. choose c (eqb (getD ws (2 * (s + n) + 1) 0) 1) (find Old k)) t))
     at false d e t (inl ih) = inl (ap (λ p. choose (eqb p k) (eqb (getD (set ws (2 * i + 1) b) (2 * (s + n) + 1) 0) 1) (find New k)) place ∙ ap (λ c. choose c (eqb (getD (set ws (2 * i + 1) b) (2 * (s + n) + 1) 0) 1) (find New k)) t ∙ ih ∙ sym (ap (λ c. choose c (eqb (getD ws (2 * (s + n) + 1) 0) 1) (find Old k)) t))
     at false d e t (inr ih) = inr (ih .0, ap (λ p. choose (eqb p k) (eqb (getD (set ws (2 * i + 1) b) (2 * (s + n) + 1) 0) 1) (find New k)) place ∙ ap (λ c. choose c (eqb (getD (set ws (2 * i + 1) b) (2 * (s + n) + 1) 0) 1) (find New k)) t ∙ ih .1)
+
     hit : (c : Bool) → s + n ≡ i → eqb (getD ws (2 * (s + n)) 0) k ≡ c → (find New k ≡ find Old k) ⊎ ((getD ws (2 * i) 0 ≡ k) × (find New k ≡ eqb b 1)) → Goal
     hit true e t ih = inr (ap (λ i. getD ws (2 * i) 0) (sym e) ∙ eqb→eq (getD ws (2 * (s + n)) 0) k (subst T (sym t) tt), ap (λ p. choose (eqb p k) (eqb (getD (set ws (2 * i + 1) b) (2 * (s + n) + 1) 0) 1) (find New k)) place ∙ ap (λ c. choose c (eqb (getD (set ws (2 * i + 1) b) (2 * (s + n) + 1) 0) 1) (find New k)) t ∙ ap (λ j. eqb (getD (set ws (2 * i + 1) b) (2 * j + 1) 0) 1) e ∙ ap (λ g. eqb g 1) (getD-set-same ws (2 * i + 1) b 0 h))
     hit false e t (inl ih) = inl (ap (λ p. choose (eqb p k) (eqb (getD (set ws (2 * i + 1) b) (2 * (s + n) + 1) 0) 1) (find New k)) place ∙ ap (λ c. choose c (eqb (getD (set ws (2 * i + 1) b) (2 * (s + n) + 1) 0) 1) (find New k)) t ∙ ih ∙ sym (ap (λ c. choose c (eqb (getD ws (2 * (s + n) + 1) 0) 1) (find Old k)) t))
     hit false e t (inr ih) = inr (ih .0, ap (λ p. choose (eqb p k) (eqb (getD (set ws (2 * i + 1) b) (2 * (s + n) + 1) 0) 1) (find New k)) place ∙ ap (λ c. choose c (eqb (getD (set ws (2 * i + 1) b) (2 * (s + n) + 1) 0) 1) (find New k)) t ∙ ih .1)
+
     here : (c : Bool) → eqb (s + n) i ≡ c → (find New k ≡ find Old k) ⊎ ((getD ws (2 * i) 0 ≡ k) × (find New k ≡ eqb b 1)) → Goal
     here true e ih = hit (eqb (getD ws (2 * (s + n)) 0) k) (eqb→eq (s + n) i (subst T (sym e) tt)) refl ih
     here false e ih = at (eqb (getD ws (2 * (s + n)) 0) k) true (getD-set-other ws (2 * i + 1) (2 * (s + n) + 1) b 0 (apart e)) refl ih
@@ -91,6 +97,7 @@ over-ways ws i b k l true (e ∷ es) s h p q = go (find (part ws s (e - s) ++ l)
     or-true : (c : Bool) → (c || true) ≡ true
     or-true true = refl
     or-true false = refl
+
     go : (f : Bool) → find (part ws s (e - s) ++ l) k ≡ f → (f || gone-in (ways ws e es) l k) ≡ true → (find (part (set ws (2 * i + 1) b) s (e - s) ++ l) k ≡ find (part ws s (e - s) ++ l) k) ⊎ ((getD ws (2 * i) 0 ≡ k) × (find (part (set ws (2 * i + 1) b) s (e - s) ++ l) k ≡ eqb b 1)) → (gone-in (ways ws e es) l k ≡ true → gone-in (ways (set ws (2 * i + 1) b) e es) l k ≡ true) → (find (part (set ws (2 * i + 1) b) s (e - s) ++ l) k || gone-in (ways (set ws (2 * i + 1) b) e es) l k) ≡ true
     go true t q (inl u) r = ap (λ x. x || gone-in (ways (set ws (2 * i + 1) b) e es) l k) (u ∙ t)
     go true t q (inr u) r = ap (λ x. x || gone-in (ways (set ws (2 * i + 1) b) e es) l k) (u .1 ∙ p (u .0))
@@ -107,9 +114,9 @@ over-word ws i b l es from h q k = over-ways ws i b k l (gone-in (ways ws from e
 
 -- one turn of the join: us as it was, ws with what lies below i written
 module _ (ws us gs es : List ℕ) (from count i b : ℕ) (long : 2 * i + 1 < length ws) (after : from ≤ i)
-  (low : (j : ℕ) → j < 2 * from → getD ws j 0 ≡ getD us j 0) (high : (j : ℕ) → 2 * i ≤ j → getD ws j 0 ≡ getD us j 0)
-  (all : (k : ℕ) → gone-in (ways ws from es) (lives us gs count from) k ≡ gone-in (ways us from es) (lives us gs count from) k)
-  (is : eqb b 1 ≡ behind (ways ws from es) (getD ws (2 * i) 0) (find (lives ws gs count from) (getD ws (2 * i) 0))) where
+    (low : (j : ℕ) → j < 2 * from → getD ws j 0 ≡ getD us j 0) (high : (j : ℕ) → 2 * i ≤ j → getD ws j 0 ≡ getD us j 0)
+    (all : (k : ℕ) → gone-in (ways ws from es) (lives us gs count from) k ≡ gone-in (ways us from es) (lives us gs count from) k)
+    (is : eqb b 1 ≡ behind (ways ws from es) (getD ws (2 * i) 0) (find (lives ws gs count from) (getD ws (2 * i) 0))) where
   written : eqb b 1 ≡ gone-in (ways ws from es) (lives us gs count from) (getD ws (2 * i) 0)
   written = is ∙ ap (λ l. behind (ways ws from es) (getD ws (2 * i) 0) (find l (getD ws (2 * i) 0))) (lives-same ws us gs count from (2 * from) (omega arith) low) ∙ sym (behind-is (ways ws from es) (lives us gs count from) (getD ws (2 * i) 0))
 
@@ -124,8 +131,8 @@ module _ (ws us gs es : List ℕ) (from count i b : ℕ) (long : 2 * i + 1 < len
 
   pub join-part : part ws from (i - from) ≡ rewrite (part us from (i - from)) (ways us from es) (lives us gs count from) → part (set ws (2 * i + 1) b) from ((i + 1) - from) ≡ rewrite (part us from ((i + 1) - from)) (ways us from es) (lives us gs count from)
   join-part h = let e : (i + 1) - from ≡ suc (i - from) = omega arith in let f : from + (i - from) ≡ i = omega arith in
-    ap (part (set ws (2 * i + 1) b) from) e
-    ∙ ap₂ (λ j l. entry-at (set ws (2 * i + 1) b) j ∷ l) f (part-same (set ws (2 * i + 1) b) ws from (i - from) (2 * i) (omega arith) (λ j q. getD-set-other ws (2 * i + 1) j b 0 (omega arith)) ∙ h)
-    ∙ ap₂ (λ p g. gone-at p g ∷ rewrite (part us from (i - from)) (ways us from es) (lives us gs count from)) (getD-set-other ws (2 * i + 1) (2 * i) b 0 (omega arith) ∙ high (2 * i) (omega arith)) (ap (λ g. eqb g 1) (getD-set-same ws (2 * i + 1) b 0 long) ∙ written ∙ ap (gone-in (ways ws from es) (lives us gs count from)) (high (2 * i) (omega arith)) ∙ all (getD us (2 * i) 0))
-    ∙ sym (ap (λ j. gone-at (getD us (2 * j) 0) (gone-in (ways us from es) (lives us gs count from) (getD us (2 * j) 0)) ∷ rewrite (part us from (i - from)) (ways us from es) (lives us gs count from)) f)
-    ∙ sym (ap (λ n. rewrite (part us from n) (ways us from es) (lives us gs count from)) e)
+      ap (part (set ws (2 * i + 1) b) from) e
+      ∙ ap₂ (λ j l. entry-at (set ws (2 * i + 1) b) j ∷ l) f (part-same (set ws (2 * i + 1) b) ws from (i - from) (2 * i) (omega arith) (λ j q. getD-set-other ws (2 * i + 1) j b 0 (omega arith)) ∙ h)
+      ∙ ap₂ (λ p g. gone-at p g ∷ rewrite (part us from (i - from)) (ways us from es) (lives us gs count from)) (getD-set-other ws (2 * i + 1) (2 * i) b 0 (omega arith) ∙ high (2 * i) (omega arith)) (ap (λ g. eqb g 1) (getD-set-same ws (2 * i + 1) b 0 long) ∙ written ∙ ap (gone-in (ways ws from es) (lives us gs count from)) (high (2 * i) (omega arith)) ∙ all (getD us (2 * i) 0))
+      ∙ sym (ap (λ j. gone-at (getD us (2 * j) 0) (gone-in (ways us from es) (lives us gs count from) (getD us (2 * j) 0)) ∷ rewrite (part us from (i - from)) (ways us from es) (lives us gs count from)) f)
+      ∙ sym (ap (λ n. rewrite (part us from n) (ways us from es) (lives us gs count from)) e)

@@ -44,7 +44,7 @@ same-is (a ∷ x) (b ∷ y) h = go (eqb a b) (eqb→eq a b) h (same-is x y)
 
 pub seek-hit : (text code ns es : List ℕ) (h hs t : ℕ) (x : Lexeme) (z : Option Found) → 0 < h → h ≤ hs → same (spelling text (variable-at ns (h - 1) .name)) x ≡ true → seek (slots-of text code ns es h t) x ≡ z → Sought text code ns hs x (h - 1) z
 seek-hit text code ns es h hs t x z p l e q = subst (Sought text code ns hs x (h - 1)) (sym (ap (λ vs. seek vs x) (slots-step text code ns es h t p) ∙ ap (λ b. choose b (some (found-at (slot-at text code ns es (h - 1) t) (slots-of text code ns es (h - 1) (min t (variable-at ns (h - 1) .loans))))) (seek (slots-of text code ns es (h - 1) (min t (variable-at ns (h - 1) .loans))) x)) e) ∙ q)
-  (same-is (spelling text (variable-at ns (h - 1) .name)) x e, refl, length-slots text code ns es (h - 1) (min t (variable-at ns (h - 1) .loans)), omega arith)
+    (same-is (spelling text (variable-at ns (h - 1) .name)) x e, refl, length-slots text code ns es (h - 1) (min t (variable-at ns (h - 1) .loans)), omega arith)
 
 pub seek-miss : (text code ns es : List ℕ) (h t : ℕ) (x : Lexeme) (z : Option Found) → 0 < h → same (spelling text (variable-at ns (h - 1) .name)) x ≡ false → seek (slots-of text code ns es h t) x ≡ z → (u : ℕ) × (seek (slots-of text code ns es (h - 1) u) x ≡ z)
 seek-miss text code ns es h t x z p e q = (min t (variable-at ns (h - 1) .loans), sym (ap (λ vs. seek vs x) (slots-step text code ns es h t p) ∙ ap (λ b. choose b (some (found-at (slot-at text code ns es (h - 1) t) (slots-of text code ns es (h - 1) (min t (variable-at ns (h - 1) .loans))))) (seek (slots-of text code ns es (h - 1) (min t (variable-at ns (h - 1) .loans))) x)) e) ∙ q)
@@ -55,10 +55,10 @@ seek-none text code ns es h t x z p q = let e : h ≡ 0 = omega arith in sym q �
 -- the entries of the newest name, then those of the others
 some-step : (f : Loan → Bool) (text code ns es : List ℕ) (h t from : ℕ) (b z : Bool) → 0 < h → from ≡ variable-at ns (h - 1) .loans → b ≡ some-of f (leaves (slice text es from (t - from))) → some-of f (leaves (stack (slots-of text code ns es h t))) ≡ z → (b || some-of f (leaves (stack (slots-of text code ns es (h - 1) (min t from))))) ≡ z
 some-step f text code ns es h t from b z p e d q = ap₂ (λ b m. b || some-of f (leaves (stack (slots-of text code ns es (h - 1) (min t m))))) (d ∙ ap (λ m. some-of f (leaves (slice text es m (t - m)))) e) e
-  ∙ sym (ap (λ vs. some-of f (leaves (stack vs))) (slots-step text code ns es h t p)
+    ∙ sym (ap (λ vs. some-of f (leaves (stack vs))) (slots-step text code ns es h t p)
     ∙ ap (some-of f) (leaves-++ (slice text es (variable-at ns (h - 1) .loans) (t - variable-at ns (h - 1) .loans)) (stack (slots-of text code ns es (h - 1) (min t (variable-at ns (h - 1) .loans)))))
     ∙ some-of-++ f (leaves (slice text es (variable-at ns (h - 1) .loans) (t - variable-at ns (h - 1) .loans))) (leaves (stack (slots-of text code ns es (h - 1) (min t (variable-at ns (h - 1) .loans))))))
-  ∙ q
+    ∙ q
 
 pub some-yes : (f : Loan → Bool) (text code ns es : List ℕ) (h t from : ℕ) (b z : Bool) → 0 < h → from ≡ variable-at ns (h - 1) .loans → b ≡ some-of f (leaves (slice text es from (t - from))) → b ≡ true → some-of f (leaves (stack (slots-of text code ns es h t))) ≡ z → true ≡ z
 some-yes f text code ns es h t from b z p e d y q = ap (λ b. b || some-of f (leaves (stack (slots-of text code ns es (h - 1) (min t from))))) (sym y) ∙ some-step f text code ns es h t from b z p e d q
@@ -69,6 +69,7 @@ some-no f text code ns es h t from b z p e d y q = ap (λ b. b || some-of f (lea
 -- seven words at once
 abbrev seven : ℕ → ℕ → ℕ → ℕ → ℕ → ℕ → ℕ → Variable
 seven = variable
+
 seven-same : {a b c d e f g a' b' c' d' e' f' g' : ℕ} → a ≡ a' → b ≡ b' → c ≡ c' → d ≡ d' → e ≡ e' → f ≡ f' → g ≡ g' → seven a b c d e f g ≡ seven a' b' c' d' e' f' g'
 seven-same {a} {b} {c} {d} {e} {f} {g} {a'} {b'} {c'} {d'} {e'} {f'} {g'} p q r s t u v = ap₂ (λ x y. seven x y c d e f g) p q ∙ ap₂ (λ x y. seven a' b' x y e f g) r s ∙ ap₂ (λ x y. seven a' b' c' d' x y g) t u ∙ ap (seven a' b' c' d' e' f') v
 

@@ -33,6 +33,10 @@ abbrev pub or-else : Option Bool → Bool → Bool
 or-else None d = d
 or-else (Some b) d = b
 
+abbrev pub bit-of : Bool → ℕ
+bit-of true = 1
+bit-of false = 0
+
 -- an entry is two words: a place, and 1 if it's gone
 abbrev pub entry-at : List ℕ → ℕ → Gone
 entry-at ws i = gone-at (getD ws (2 * i) 0) (eqb (getD ws (2 * i + 1) 0) 1)

@@ -1,4 +1,4 @@
 pub mod loans;
 pub mod log;
 pub mod names;
-mod words;
+pub mod words;

@@ -5,11 +5,10 @@ ghost use lib.ListN.{length};
 ghost use Rattle.language.specs.Base.{«some-of»};
 ghost use Rattle.lexer.specs.Spelling.{spelling};
 ghost use Rattle.scope.specs.Loans.{«loan-at», «entry-in», «operand-of», slice, leaves, «ent-of», asks};
-
 use crate::log::Place;
-use types::same_name;
 use crate::words::write;
 use lexer::Name;
+use types::same_name;
 
 // An entry of a name's loans: a loan, shared or alone, of what another name has; or all that the name at a place has.
 #[derive(Clone, Copy)]

@@ -3,7 +3,7 @@ ghost use mathlib.Core.Path.{_≡_};
 ghost use mathlib.Core.List.{_∷_};
 ghost use lib.ListN.{length, getD};
 ghost use lib.Dec.{eqb};
-ghost use Rattle.scope.specs.Log.{find as Found, said as Said, part, lives, «gone-at», behind, rewrite, ways};
+ghost use Rattle.scope.specs.Log.{find as Found, said as Said, part, lives, «gone-at», «bit-of», behind, rewrite, ways};
 
 // The place of a name in scope: how many are older.
 #[derive(Clone, Copy)]
@@ -46,7 +46,8 @@ pub fn is_gone(log: &[u64], top: usize, gaps: &[u64], count: usize, place: Place
 
 // The word for gone, or there.
 pub fn bit(gone: bool) -> u64
-    ensures { λ r. ⌜ eqb r 1 ≡ gone ⌝ }
+    ensures is { λ r. ⌜ eqb r 1 ≡ gone ⌝ }
+    ensures value { λ r. ⌜ r ≡ «bit-of» gone ⌝ }
 {
     if gone { 1 } else { 0 }
 }

@@ -8,7 +8,6 @@ ghost use Rattle.language.specs.Base.{«some-of»};
 ghost use Rattle.lexer.specs.Spelling.{spelling};
 ghost use Rattle.scope.specs.Loans.{asks, leaves};
 ghost use Rattle.scope.specs.Slots.{«variable-at», «slots-of», seek as Seek, stack, «Sought», «outer-in», «base-in», «outer-number», «base-number», «base-operand»};
-
 use crate::loans::Asked;
 use crate::loans::is_lent;
 use crate::log::Place;
@@ -49,7 +48,7 @@ fn outer_number(outer: Outer) -> u64
     }
 }
 
-fn base_in(number: u64, operand: u64) -> Base
+pub fn base_in(number: u64, operand: u64) -> Base
     ensures { λ r. ⌜ r ≡ «base-in» number operand ⌝ }
 {
     match number {
@@ -59,7 +58,7 @@ fn base_in(number: u64, operand: u64) -> Base
     }
 }
 
-fn base_number(base: Base) -> u64
+pub fn base_number(base: Base) -> u64
     ensures { λ r. ⌜ r ≡ «base-number» base ⌝ }
 {
     match base {
@@ -69,7 +68,7 @@ fn base_number(base: Base) -> u64
     }
 }
 
-fn base_operand(base: Base) -> u64
+pub fn base_operand(base: Base) -> u64
     ensures { λ r. ⌜ r ≡ «base-operand» base ⌝ }
 {
     match base {
@@ -136,7 +135,15 @@ pub fn seek(text: &[u8], names: &[u64], height: usize, name: Name) -> Option<Pla
 }
 
 // Whether one of the names has such a loan of a name.
-pub fn has_loan(text: &[u8], names: &[u64], height: usize, loans: &[u64], top: usize, name: Name, asked: Asked) -> bool
+pub fn has_loan(
+    text: &[u8],
+    names: &[u64],
+    height: usize,
+    loans: &[u64],
+    top: usize,
+    name: Name,
+    asked: Asked,
+) -> bool
     requires { ⌜ 7 * height ≤ length (now names) ⌝ ∗ ⌜ 2 * top ≤ length (now loans) ⌝ }
     ensures { λ r. ⌜ ((code : List ℕ) → r ≡ «some-of» (asks asked (spelling (now (text .entry)) name)) (leaves (stack («slots-of» (now (text .entry)) code (now (names .entry)) (now (loans .entry)) height top)))) ⌝ }
 {

@@ -23,7 +23,6 @@ use Rattle.types.specs.declared.ty.Base.the-variants.{Number, Data, Written}
 use Rattle.types.specs.declared.ty.ValueType.{ValueType}
 use Rattle.types.specs.declared.ty.Shape.{Shape}
 use Rattle.types.specs.declared.ty.Shape.the-variants.{Int as IsInt, Data as IsData, Box as IsBox, Ref as IsRef, Mut as IsMut}
-
 use Rattle.types.specs.declared.same.Compared.{Compared}
 use Rattle.types.specs.declared.same.Compared.the-variants.{Same, Differ, Within}
 
@@ -120,6 +119,7 @@ shape-of text code (IsData x) = dat (spelling text x)
 shape-of text code (IsBox t) = box (type-of text code t)
 shape-of text code (IsRef t) = ref (type-of text code t)
 shape-of text code (IsMut t) = mut (type-of text code t)
+
 -- what's inside is plain, and has no more boxes that aren't written
 abbrev pub Inner : ℕ → Shape → Type 0
 Inner n IsInt = Unit {0}
@@ -127,6 +127,14 @@ Inner n (IsData x) = Unit {0}
 Inner n (IsBox t) = (t .outer ≡ Plain) × (t .boxes ≤ n)
 Inner n (IsRef t) = (t .outer ≡ Plain) × (t .boxes ≤ n)
 Inner n (IsMut t) = (t .outer ≡ Plain) × (t .boxes ≤ n)
+
+-- what's no reference is plain
+abbrev pub Bare : Shape → Outer → Type 0
+Bare IsInt o = o ≡ Plain
+Bare (IsData x) o = o ≡ Plain
+Bare (IsBox t) o = o ≡ Plain
+Bare (IsRef t) o = Unit {0}
+Bare (IsMut t) o = Unit {0}
 
 abbrev pub layers : Ty → ℕ
 layers int = 0

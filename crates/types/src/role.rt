@@ -1,6 +1,5 @@
 ghost use mathlib.Core.Path.{_≡_};
 ghost use Rattle.types.specs.Types.{«role-of», «role-at»};
-
 use code::Instr;
 use code::decode;
 use lexer::Name;

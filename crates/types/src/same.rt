@@ -3,7 +3,6 @@ ghost use mathlib.Core.Path.{_≡_};
 ghost use mathlib.Core.List.{List};
 ghost use Rattle.language.specs.Checks.{same-ty};
 ghost use Rattle.types.specs.Types.{«type-of», «shape-of», «Stands»};
-
 use crate::layer::shape;
 use crate::spelled::same_name;
 use crate::ty::Shape;
@@ -32,11 +31,16 @@ fn compare(text: &[u8], x: Shape, y: Shape) -> Compared
         (Shape::Box(a), Shape::Box(b)) => Compared::Within(a, b),
         (Shape::Ref(a), Shape::Ref(b)) => Compared::Within(a, b),
         (Shape::Mut(a), Shape::Mut(b)) => Compared::Within(a, b),
-        (Shape::Int, Shape::Data(_) | Shape::Box(_) | Shape::Ref(_) | Shape::Mut(_)) => Compared::Differ,
-        (Shape::Data(_), Shape::Int | Shape::Box(_) | Shape::Ref(_) | Shape::Mut(_)) => Compared::Differ,
-        (Shape::Box(_), Shape::Int | Shape::Data(_) | Shape::Ref(_) | Shape::Mut(_)) => Compared::Differ,
-        (Shape::Ref(_), Shape::Int | Shape::Data(_) | Shape::Box(_) | Shape::Mut(_)) => Compared::Differ,
-        (Shape::Mut(_), Shape::Int | Shape::Data(_) | Shape::Box(_) | Shape::Ref(_)) => Compared::Differ,
+        (Shape::Int, Shape::Data(_) | Shape::Box(_) | Shape::Ref(_) | Shape::Mut(_)) =>
+            Compared::Differ,
+        (Shape::Data(_), Shape::Int | Shape::Box(_) | Shape::Ref(_) | Shape::Mut(_)) =>
+            Compared::Differ,
+        (Shape::Box(_), Shape::Int | Shape::Data(_) | Shape::Ref(_) | Shape::Mut(_)) =>
+            Compared::Differ,
+        (Shape::Ref(_), Shape::Int | Shape::Data(_) | Shape::Box(_) | Shape::Mut(_)) =>
+            Compared::Differ,
+        (Shape::Mut(_), Shape::Int | Shape::Data(_) | Shape::Box(_) | Shape::Ref(_)) =>
+            Compared::Differ,
     }
 }
 

@@ -6,7 +6,6 @@ ghost use Rattle.std.specs.Options.{Cases};
 ghost use Rattle.language.specs.Base.{same};
 ghost use Rattle.language.specs.Text.{«is-word-byte»};
 ghost use Rattle.lexer.specs.Spelling.{spelling, «lexeme-at»};
-
 use lexer::Name;
 
 fn in_word(b: u8) -> bool

@@ -9,7 +9,7 @@ use Rattle.scope.proofs.JoinWords.{join-low, join-high, join-all, join-part}
 use Rattle.scope.proofs.log.join.Needs as need
 
 is : (c : need.After-bit) → eqb (c .bit .result) 1 ≡ behind (ways (c .loop-i .log) (c .args .from) (c .args .ends .now)) (getD (c .loop-i .log) (2 * c .loop-i .i) 0) (find (lives (c .loop-i .log) (c .args .gaps .now) (c .args .count) (c .args .from)) (getD (c .loop-i .log) (2 * c .loop-i .i) 0))
-is c = c .bit .ensures ∙ c .gone-behind .ensures ∙ ap (behind (ways (c .loop-i .log) (c .args .from) (c .args .ends .now)) (getD (c .loop-i .log) (2 * c .loop-i .i) 0)) (c .is-gone-was .ensures)
+is c = c .bit .ensures .is ∙ c .gone-behind .ensures ∙ ap (behind (ways (c .loop-i .log) (c .args .from) (c .args .ends .now)) (getD (c .loop-i .log) (2 * c .loop-i .i) 0)) (c .is-gone-was .ensures)
 
 pub loop-i-again : need.loop-i-again
 loop-i-again c = (join-low (c .loop-i .log) (c .args .log .now) (c .args .gaps .now) (c .args .ends .now) (c .args .from) (c .args .count) (c .loop-i .i) (c .bit .result) (let e : length (c .loop-i .log) ≡ length (c .args .log .now) = c .loop-i .kept .log in omega arith) (c .loop-i .kept .i) (c .loop-i .inv .0) (c .loop-i .inv .1) (c .loop-i .inv .2) (is c), join-high (c .loop-i .log) (c .args .log .now) (c .args .gaps .now) (c .args .ends .now) (c .args .from) (c .args .count) (c .loop-i .i) (c .bit .result) (let e : length (c .loop-i .log) ≡ length (c .args .log .now) = c .loop-i .kept .log in omega arith) (c .loop-i .kept .i) (c .loop-i .inv .0) (c .loop-i .inv .1) (c .loop-i .inv .2) (is c), join-all (c .loop-i .log) (c .args .log .now) (c .args .gaps .now) (c .args .ends .now) (c .args .from) (c .args .count) (c .loop-i .i) (c .bit .result) (let e : length (c .loop-i .log) ≡ length (c .args .log .now) = c .loop-i .kept .log in omega arith) (c .loop-i .kept .i) (c .loop-i .inv .0) (c .loop-i .inv .1) (c .loop-i .inv .2) (is c), join-part (c .loop-i .log) (c .args .log .now) (c .args .gaps .now) (c .args .ends .now) (c .args .from) (c .args .count) (c .loop-i .i) (c .bit .result) (let e : length (c .loop-i .log) ≡ length (c .args .log .now) = c .loop-i .kept .log in omega arith) (c .loop-i .kept .i) (c .loop-i .inv .0) (c .loop-i .inv .1) (c .loop-i .inv .2) (is c) (c .loop-i .inv .3))
