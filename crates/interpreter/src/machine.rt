@@ -1,88 +1,83 @@
-// The machine: a state, and what is still to be done.
+// The machine: memory, names in scope, what is under way, and the single steps that all the rest is made of.
 use crate::task::Task;
+use crate::task::Work;
+use model_memory::memory::Memory;
+use model_memory::meter::Meter;
+use model_memory::pools::Pools;
+use model_memory::scope::Scope;
+use model_memory::sizes::Sizes;
 use model_memory::stop::Stop;
-use model_memory::stop::StopFromRefused;
+use model_memory::streams::Streams;
+use model_memory::value::Place;
+use model_memory::value::RootId;
 use model_memory::value::Value;
-use model_state::state::State;
-use model_state::step::Next;
-use model_state::step::Step;
 use model_text::tree::Name;
 use model_text::tree::NamePartialEq;
 use model_text::tree::Program;
+use std::alloc::Global;
 
 #[derive(Drop)]
 pub struct Machine<'p> {
+    pub heap: Global,
     pub program: &'p Program,
-    pub tasks: Vec<Task<'p>>,
-    pub state: State,
+    pub sizes: Sizes,
+    pub memory: Memory,
+    pub pools: Pools,
+    pub scope: Scope,
+    pub meter: Meter,
+    pub streams: Streams,
+    pub work: Work,
 }
 
-// The number of the first function of that name.
-fn function_named(program: &Program, name: Name) -> Option<usize> {
+// The number of the function of that name.
+pub fn function_named(program: &Program, name: Name) -> Result<usize, Stop> {
     for (i, one) in program.functions.iter().enumerate() {
         if one.name == name {
-            return Some(i);
+            return Ok(i);
         }
     }
-    None
+    Err(Stop::Wrong)
+}
+
+// A reference to a root's whole value.
+pub fn reference(heap: Global, root: RootId) -> Value {
+    Value::Reference(Place {
+        root,
+        path: Vec::new(heap),
+    })
 }
 
 impl<'p> Machine<'p> {
-    pub fn later(&mut self, task: Task<'p>) -> Result<(), Stop> {
-        if self.tasks.len() as u64 >= self.state.limits.depth {
-            return Err(Stop::TooDeep);
-        }
-        self.tasks.push(task)?;
-        Ok(())
+    pub fn later(&mut self, task: Task) -> Result<(), Stop> {
+        self.work.later(task)
     }
 
-    fn plain(&mut self, step: Step) -> Result<(), Stop> {
-        match self.state.step(step)? {
-            Next::Done => Ok(()),
-            Next::Then(one) => self.later(Task::Plain(one)),
-            Next::Both(first, second) => {
-                self.later(Task::Plain(second))?;
-                self.later(Task::Plain(first))
-            }
-            Next::Call(name, arguments) => self.call(name, arguments),
-            Next::CallThen(name, arguments, behind) => {
-                self.later(Task::Plain(behind))?;
-                self.call(name, arguments)
-            }
+    // A new name, with a root of its own.
+    pub fn bind(&mut self, name: Name, value: Value) -> Result<(), Stop> {
+        let root = self.memory.add(value, 0)?;
+        self.scope.push(name, root)
+    }
+
+    // Where a name's value is, or where it points to.
+    pub fn place_of(&self, name: Name) -> Result<Place, Stop> {
+        let root = self.scope.root_of(name)?;
+        match self.memory.whole(root)? {
+            Value::Reference(place) => place.copy(),
+            Value::Number(_) | Value::Data(_, _, _) | Value::Box(_) | Value::Hole => Ok(Place {
+                root,
+                path: Vec::new(self.heap),
+            }),
         }
     }
 
-    // Calls a function, with the last argument first.
-    pub fn call(&mut self, name: Name, arguments: Vec<Value>) -> Result<(), Stop> {
-        let program = self.program;
-        let Some(number) = function_named(program, name) else {
-            return Err(Stop::Wrong);
-        };
-        let Some(function) = program.functions.get(number) else {
-            return Err(Stop::Wrong);
-        };
-        let end = self.state.begin_call(number)?;
-        self.later(Task::Plain(end))?;
-        self.state.bind_params(&function.params, arguments)?;
-        self.body(&function.body, self.state.base)
-    }
-
-    // One task; false where none is left.
-    pub fn step(&mut self) -> Result<bool, Stop> {
-        let Some(task) = self.tasks.pop() else {
-            return Ok(false);
-        };
-        match task {
-            Task::Eval(expr) => self.eval(expr)?,
-            Task::EvalAll(exprs) => self.eval_all(exprs)?,
-            Task::IfBlock(yes, no) => self.if_block(yes, no)?,
-            Task::IfBody(yes, no) => self.if_body(yes, no)?,
-            Task::Test(expr, block) => self.test(expr, block)?,
-            Task::Again(expr, block) => self.again(expr, block)?,
-            Task::Run(block) => self.run(block)?,
-            Task::Give(tail) => self.give(tail)?,
-            Task::Plain(step) => self.plain(step)?,
+    // The place that a name's value, a reference, points to.
+    pub fn target(&self, name: Name) -> Result<Place, Stop> {
+        let root = self.scope.root_of(name)?;
+        match self.memory.whole(root)? {
+            Value::Reference(place) => place.copy(),
+            Value::Number(_) | Value::Data(_, _, _) | Value::Box(_) | Value::Hole => Err(
+                Stop::Wrong,
+            ),
         }
-        Ok(true)
     }
 }

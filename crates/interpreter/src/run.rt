@@ -1,28 +1,39 @@
 // A whole run of a text.
 use crate::machine::Machine;
+use crate::task::Task;
+use crate::task::Work;
+use model_memory::memory::Memory;
+use model_memory::meter::Meter;
+use model_memory::pools::Pools;
+use model_memory::scope::Scope;
+use model_memory::sizes::Sizes;
 use model_memory::stop::Stop;
-use model_memory::stop::StopFromAlloc;
 use model_memory::stop::StopFromFault;
-use model_memory::stop::StopFromRefused;
-use model_memory::value::Parts;
-use model_memory::value::Value;
-use model_state::state::Limits;
-use model_state::state::State;
-use model_state::table::Table;
+use model_memory::streams::Streams;
 use model_text::parse::read;
 use model_text::tree::Program;
 use std::alloc::Global;
-use std::fmt;
-use std::mem;
 
-// Large limits.
-pub fn large() -> Limits {
-    Limits {
-        heap: 1 << 40,
-        stack: 1 << 40,
-        turns: 1 << 60,
-        out: 1 << 40,
-        depth: 10_000_000,
+// How much a run may use: words for boxes and for what is under way, turns, numbers shown, and tasks that wait for one another.
+#[derive(Clone, Copy)]
+pub struct Limits {
+    pub heap: u64,
+    pub stack: u64,
+    pub turns: u64,
+    pub out: u64,
+    pub depth: u64,
+}
+
+impl Limits {
+    // Large ones.
+    pub fn large() -> Self {
+        Limits {
+            heap: 1 << 40,
+            stack: 1 << 40,
+            turns: 1 << 60,
+            out: 1 << 40,
+            depth: 10_000_000,
+        }
     }
 }
 
@@ -34,48 +45,58 @@ pub struct Used {
     pub turns: u64,
 }
 
-// What main gave: a number, or what is none, as in a text that isn't accepted.
-#[derive(Clone, Copy, PartialEq, Eq)]
-pub enum Given {
-    Number(u64),
-    Other,
-}
-
 // How a run ended, what it showed, and what it used.
 #[derive(Drop)]
 pub struct Outcome {
-    pub end: Result<Given, Stop>,
+    pub end: Result<u64, Stop>,
     pub shown: Vec<u64>,
     pub used: Used,
 }
 
-fn what_was_given(value: Value) -> Given {
-    match value.parts() {
-        Parts::Number(k) => Given::Number(k),
-        Parts::Data(_, _) | Parts::Box(_) | Parts::Reference(_) | Parts::Hole => Given::Other,
-    }
-}
-
-// Calls main and does what is to be done, until nothing is.
-fn run_main(machine: &mut Machine) -> Result<Given, Stop> {
-    let Some(main) = machine.program.main else {
-        return Err(Stop::Wrong);
-    };
-    let none = Vec::new(machine.state.heap);
-    machine.call(main, none)?;
-    for _ in 0..u64::MAX {
-        if !machine.step()? {
-            return Ok(what_was_given(machine.state.pop()?));
+impl<'p> Machine<'p> {
+    // Does one task.
+    fn step(&mut self, task: Task) -> Result<(), Stop> {
+        match task {
+            Task::Eval(expr) => self.eval(expr),
+            Task::EvalAll(args) => self.eval_all(args),
+            Task::Apply(op) => self.apply(op),
+            Task::Construct(ctor, height) => self.construct(ctor, height),
+            Task::Call(name, height) => self.call(name, height),
+            Task::MakeBox => self.make_box(),
+            Task::Run(block) => self.run(block),
+            Task::Bind(name) => self.bind_value(name),
+            Task::Assign(name) => self.assign(name),
+            Task::Store(name) => self.store(name),
+            Task::Show => self.show(),
+            Task::If(yes, no) => self.choose(yes, no),
+            Task::Test(test, block) => self.test(test, block),
+            Task::Again(test, block) => self.again(test, block),
+            Task::Give(body) => self.give(body),
+            Task::GiveIf(yes, no) => self.choose_body(yes, no),
+            Task::EndNames(down_to) => self.end_names(down_to),
+            Task::EndCall(under, base) => {
+                self.end_call(under, base);
+                Ok(())
+            }
+            Task::Drop => self.drop_value(),
+            Task::EndBox(root, words, under) => self.end_box(root, words, under),
+            Task::EndLast(root) => self.end_last(root),
         }
     }
-    Err(Stop::TooDeep)
-}
 
-fn usage_of(state: &State) -> Used {
-    Used {
-        heap: state.pools.peaks(),
-        stack: state.most_under,
-        turns: state.turns,
+    // Calls main and does what is to be done, until nothing is.
+    fn run_main(&mut self) -> Result<u64, Stop> {
+        let Some(main) = self.program.main else {
+            return Err(Stop::Wrong);
+        };
+        self.call(main, 0)?;
+        for _ in 0..u64::MAX {
+            match self.work.next() {
+                Some(task) => self.step(task)?,
+                None => return self.work.pop_number(),
+            }
+        }
+        Err(Stop::TooDeep)
     }
 }
 
@@ -85,30 +106,39 @@ fn run_program(
     limits: Limits,
     inputs: Vec<u64>,
 ) -> Result<Outcome, Stop> {
-    let table = Table::new(heap, program)?;
-    let state = State::new(heap, table, limits, inputs);
     let mut machine = Machine {
+        heap,
         program,
-        tasks: Vec::new(heap),
-        state,
+        sizes: Sizes::new(heap, program)?,
+        memory: Memory::new(heap),
+        pools: Pools::new(heap, limits.heap),
+        scope: Scope::new(heap),
+        meter: Meter::new(limits.stack, limits.turns),
+        streams: Streams::new(heap, inputs, limits.out),
+        work: Work::new(heap, limits.depth),
     };
-    let end = run_main(&mut machine);
-    let used = usage_of(&machine.state);
-    let mut shown = Vec::new(heap);
-    mem::swap(&mut shown, &mut machine.state.outputs);
-    Ok(Outcome { end, shown, used })
+    let end = machine.run_main();
+    let used = Used {
+        heap: machine.pools.peaks(),
+        stack: machine.meter.most_under(),
+        turns: machine.meter.turns(),
+    };
+    Ok(Outcome {
+        end,
+        shown: machine.streams.into_shown(),
+        used,
+    })
 }
 
 fn nothing(heap: Global, stop: Stop) -> Outcome {
-    let used = Used {
-        heap: 0,
-        stack: 0,
-        turns: 0,
-    };
     Outcome {
         end: Err(stop),
         shown: Vec::new(heap),
-        used,
+        used: Used {
+            heap: 0,
+            stack: 0,
+            turns: 0,
+        },
     }
 }
 
@@ -120,14 +150,5 @@ pub fn run_text(heap: Global, text: &[u8], limits: Limits, inputs: Vec<u64>) -> 
             Err(stop) => nothing(heap, stop),
         },
         Err(fault) => nothing(heap, fault.into()),
-    }
-}
-
-pub impl fmt::Display for Given as GivenDisplay {
-    fn fmt<W: fmt::Write>(&self, f: &mut fmt::Formatter<W>) -> fmt::Result {
-        match self {
-            Given::Number(k) => write!(f, "{k}"),
-            Given::Other => write!(f, "with what is no number"),
-        }
     }
 }

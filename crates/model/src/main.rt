@@ -1,11 +1,9 @@
 // Runs a text of the language on trees: `model FILE [--heap WORDS] [--stack WORDS] [--turns N] [--out N] [--depth N]`.
 // Numbers to read come from standard input, and each number shown goes onto a line of standard output.
-use interpreter::run::GivenDisplay;
+use interpreter::input::numbers;
+use interpreter::run::Limits;
 use interpreter::run::Outcome;
-use interpreter::run::large;
 use interpreter::run::run_text;
-use model_memory::stop::StopDisplay;
-use model_state::state::Limits;
 use std::alloc::Global;
 use std::env;
 use std::env::Args;
@@ -52,10 +50,10 @@ fn set(limits: Limits, flag: &str, value: &str) -> Result<Limits, AnyError> {
     }
 }
 
-fn asked(mut args: Args<Global>) -> Result<Request, AnyError> {
+fn requested(mut args: Args<Global>) -> Result<Request, AnyError> {
     let mut found = Request {
         file: None,
-        limits: large(),
+        limits: Limits::large(),
     };
     for _ in 0..u64::MAX {
         let Some(arg) = args.next() else {
@@ -75,26 +73,6 @@ fn asked(mut args: Args<Global>) -> Result<Request, AnyError> {
     Ok(found)
 }
 
-// A number in decimal, modulo 2^64.
-fn number(word: &str) -> Result<u64, AnyError> {
-    let mut value = 0u64;
-    for byte in word.bytes() {
-        if !matches!(byte, b'0'..=b'9') {
-            return Err("standard input: not a number".into());
-        }
-        value = value.wrapping_mul(10).wrapping_add(u64::from(byte - b'0'));
-    }
-    Ok(value)
-}
-
-fn numbers(heap: Global, text: &str) -> Result<Vec<u64>, AnyError> {
-    let mut found = Vec::new(heap);
-    for word in text.split_ascii_whitespace() {
-        found.push(number(word)?)?;
-    }
-    Ok(found)
-}
-
 fn show(rt: &LibcRuntime, outcome: &Outcome) -> Result<(), AnyError> {
     let mut out = rt.stdout().lock();
     for k in outcome.shown.iter() {
@@ -107,13 +85,15 @@ fn run(rt: &LibcRuntime) -> Result<Outcome, AnyError> {
     let heap = rt.alloc();
     let mut args = env::args(rt)?;
     let _ = args.next();
-    let Request { file, limits } = asked(args)?;
+    let Request { file, limits } = requested(args)?;
     let Some(file) = file else {
         return Err(USAGE.into());
     };
     let text = fs::read(rt, file.as_str())?;
     let input = io::read_to_string(heap, rt.stdin())?;
-    let inputs = numbers(heap, input.as_str())?;
+    let Ok(inputs) = numbers(heap, input.as_str()) else {
+        return Err("standard input: not a number".into());
+    };
     let outcome = run_text(heap, text.as_slice(), limits, inputs);
     show(rt, &outcome)?;
     Ok(outcome)
@@ -130,11 +110,14 @@ fn main(rt: LibcRuntime) -> Result<(), AnyError> {
             rt,
             "ended {value}\nused: heap={heap} stack={stack} turns={turns}"
         ),
-        Err(stop) => { eprintln!(rt, "{stop}\nused: heap={heap} stack={stack} turns={turns}") }
+        Err(stop) => {
+            let what = stop.told();
+            eprintln!(rt, "{what}\nused: heap={heap} stack={stack} turns={turns}")
+        }
     };
     told?;
     match outcome.end {
         Ok(_) => Ok(()),
-        Err(_) => Err("it came to a stop".into()),
+        Err(stop) => Err(stop.told().into()),
     }
 }

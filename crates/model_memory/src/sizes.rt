@@ -1,6 +1,7 @@
 // How many words values and calls take. A number that passes 64 bits is as good as 2^64 - 1: no limit is larger.
 use crate::stop::Stop;
 use crate::stop::StopFromRefused;
+use model_text::tree::Base;
 use model_text::tree::Ctor;
 use model_text::tree::Data;
 use model_text::tree::Name;
@@ -41,9 +42,12 @@ pub fn home_of(datas: &Vec<Data>, ctor: Name) -> Option<usize> {
 
 // A type's size, where those of the data types before are known.
 fn type_size(datas: &Vec<Data>, known: &Vec<Option<u64>>, ty: &Type) -> Option<u64> {
-    match ty {
-        Type::Int | Type::Box(_) | Type::Ref(_) | Type::Mut(_) => Some(1),
-        Type::Data(name) => *known.get(data_named(datas, *name)?)?,
+    if !ty.prefixes.is_empty() {
+        return Some(1);
+    }
+    match ty.base {
+        Base::Int => Some(1),
+        Base::Data(name) => *known.get(data_named(datas, name)?)?,
     }
 }
 
@@ -97,11 +101,7 @@ impl Sizes {
         let largest = sizes.largest(program);
         for function in program.functions.iter() {
             let params = function.params.len() as u64;
-            let places = function
-                .body
-                .pieces()
-                .saturating_add(2)
-                .saturating_add(params);
+            let places = function.pieces.saturating_add(2).saturating_add(params);
             let frame = places
                 .saturating_mul(largest)
                 .saturating_mul(8)

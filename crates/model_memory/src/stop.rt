@@ -2,7 +2,6 @@
 use model_text::fault::Fault;
 use std::alloc::AllocError;
 use std::alloc::Refused;
-use std::fmt;
 
 #[derive(Clone, Copy, PartialEq, Eq)]
 pub enum Stop {
@@ -18,6 +17,22 @@ pub enum Stop {
     TooDeep,
     // the host has no memory left
     Memory,
+}
+
+impl Stop {
+    // What is said of it.
+    pub fn told(self) -> &'static str {
+        match self {
+            Stop::NoText => "no text",
+            Stop::Wrong => "wrong",
+            Stop::NoHeap => "no room for a box",
+            Stop::NoStack => "no room for what is under way",
+            Stop::NoTurns => "no turns left",
+            Stop::NoOutput => "no room in the output",
+            Stop::TooDeep => "too deep",
+            Stop::Memory => "out of memory",
+        }
+    }
 }
 
 pub impl From<AllocError> for Stop as StopFromAlloc {
@@ -38,22 +53,6 @@ pub impl From<Fault> for Stop as StopFromFault {
             Fault::NoText => Stop::NoText,
             Fault::TooDeep => Stop::TooDeep,
             Fault::Memory => Stop::Memory,
-        }
-    }
-}
-
-// As it is told.
-pub impl fmt::Display for Stop as StopDisplay {
-    fn fmt<W: fmt::Write>(&self, f: &mut fmt::Formatter<W>) -> fmt::Result {
-        match self {
-            Stop::NoText => write!(f, "no text"),
-            Stop::Wrong => write!(f, "wrong"),
-            Stop::NoHeap => write!(f, "no room for a box"),
-            Stop::NoStack => write!(f, "no room for what is under way"),
-            Stop::NoTurns => write!(f, "no turns left"),
-            Stop::NoOutput => write!(f, "no room in the output"),
-            Stop::TooDeep => write!(f, "too deep"),
-            Stop::Memory => write!(f, "out of memory"),
         }
     }
 }

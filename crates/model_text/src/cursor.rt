@@ -6,9 +6,10 @@ use crate::token::KeywordPartialEq;
 use crate::token::Sign;
 use crate::token::SignPartialEq;
 use crate::token::Token;
-use crate::tree::Access;
+use crate::tree::Expr;
+use crate::tree::ExprId;
 use crate::tree::Name;
-use crate::tree::Operator;
+use crate::tree::Nodes;
 use std::alloc::Global;
 
 #[derive(Drop)]
@@ -16,6 +17,10 @@ pub struct Cursor {
     pub heap: Global,
     tokens: Vec<Token>,
     at: usize,
+    // what was made of those that were read
+    pub nodes: Nodes,
+    // how many pieces that has; 2^64 - 1 stands for more
+    pub pieces: u64,
 }
 
 impl Cursor {
@@ -24,6 +29,8 @@ impl Cursor {
             heap,
             tokens,
             at: 0,
+            nodes: Nodes::new(heap),
+            pieces: 0,
         }
     }
 
@@ -122,7 +129,16 @@ impl Cursor {
         }
     }
 
-    pub fn is_at_end(&self) -> bool {
-        matches!(self.peek(), Token::End)
+    // So many pieces more.
+    pub fn count(&mut self, pieces: u64) {
+        self.pieces = self.pieces.saturating_add(pieces);
+    }
+
+    // A new expression.
+    pub fn expr(&mut self, one: Expr) -> Result<ExprId, Fault> {
+        let id = ExprId(self.nodes.exprs.len());
+        self.nodes.exprs.push(one)?;
+        self.count(1);
+        Ok(id)
     }
 }

@@ -4,6 +4,5 @@ pub mod fault;
 pub mod parse;
 mod parse_body;
 mod parse_expr;
-mod pieces;
 pub mod token;
 pub mod tree;

@@ -7,25 +7,19 @@ use crate::token::Keyword;
 use crate::token::Sign;
 use crate::token::Token;
 use crate::token::tokenize;
+use crate::tree::Base;
 use crate::tree::Ctor;
 use crate::tree::Data;
 use crate::tree::Function;
 use crate::tree::Name;
 use crate::tree::Param;
+use crate::tree::Prefix;
 use crate::tree::Program;
 use crate::tree::Type;
 use std::alloc::Global;
 
 // So many levels of braces may be open at a time.
 const MOST_BRACES: usize = 5_000;
-
-// What stands before a type.
-#[derive(Clone, Copy)]
-enum Prefix {
-    Box,
-    Ref,
-    Mut,
-}
 
 // The prefixes before a type, and the type's first token behind them.
 fn prefixes(cursor: &mut Cursor) -> Result<(Vec<Prefix>, Token), Fault> {
@@ -51,10 +45,10 @@ fn prefixes(cursor: &mut Cursor) -> Result<(Vec<Prefix>, Token), Fault> {
 }
 
 fn a_type(cursor: &mut Cursor) -> Result<Type, Fault> {
-    let (mut found, token) = prefixes(cursor)?;
-    let mut whole = match token {
-        Token::Keyword(Keyword::Int) => Type::Int,
-        Token::Lower(name) => Type::Data(name),
+    let (prefixes, token) = prefixes(cursor)?;
+    let base = match token {
+        Token::Keyword(Keyword::Int) => Base::Int,
+        Token::Lower(name) => Base::Data(name),
         Token::Keyword(_)
         | Token::Upper(_)
         | Token::Number(_)
@@ -62,15 +56,7 @@ fn a_type(cursor: &mut Cursor) -> Result<Type, Fault> {
         | Token::Unknown
         | Token::End => return Err(Fault::NoText),
     };
-    while let Some(prefix) = found.pop() {
-        let inner = Box::new(cursor.heap, whole)?;
-        whole = match prefix {
-            Prefix::Box => Type::Box(inner),
-            Prefix::Ref => Type::Ref(inner),
-            Prefix::Mut => Type::Mut(inner),
-        };
-    }
-    Ok(whole)
+    Ok(Type { prefixes, base })
 }
 
 // The types behind ( up to ).
@@ -148,22 +134,24 @@ fn a_function(cursor: &mut Cursor) -> Result<Function, Fault> {
     let params = parameters(cursor)?;
     cursor.expect(Sign::Colon)?;
     let gives = a_type(cursor)?;
+    cursor.pieces = 0;
     let body = body(cursor, MOST_BRACES)?;
     Ok(Function {
         name,
         params,
         gives,
         body,
+        pieces: cursor.pieces,
     })
 }
 
-fn items(cursor: &mut Cursor, main: Option<Name>) -> Result<Program, Fault> {
+fn items(mut cursor: Cursor, main: Option<Name>) -> Result<Program, Fault> {
     let mut datas = Vec::new(cursor.heap);
     let mut functions = Vec::new(cursor.heap);
     for _ in 0..u64::MAX {
         match cursor.next() {
-            Token::Keyword(Keyword::Data) => datas.push(a_data(cursor)?)?,
-            Token::Keyword(Keyword::Fn) => functions.push(a_function(cursor)?)?,
+            Token::Keyword(Keyword::Data) => datas.push(a_data(&mut cursor)?)?,
+            Token::Keyword(Keyword::Fn) => functions.push(a_function(&mut cursor)?)?,
             Token::End => break,
             Token::Keyword(_)
             | Token::Lower(_)
@@ -176,6 +164,7 @@ fn items(cursor: &mut Cursor, main: Option<Name>) -> Result<Program, Fault> {
     Ok(Program {
         datas,
         functions,
+        nodes: cursor.nodes,
         main,
     })
 }
@@ -184,6 +173,5 @@ fn items(cursor: &mut Cursor, main: Option<Name>) -> Result<Program, Fault> {
 pub fn read(heap: Global, text: &[u8]) -> Result<Program, Fault> {
     let found = tokenize(heap, text)?;
     let main = found.known(b"main");
-    let mut cursor = Cursor::new(heap, found.tokens);
-    items(&mut cursor, main)
+    items(Cursor::new(heap, found.tokens), main)
 }

@@ -7,23 +7,16 @@ use crate::token::Keyword;
 use crate::token::Sign;
 use crate::token::Token;
 use crate::tree::Access;
-use crate::tree::Alts;
-use crate::tree::Arms;
-use crate::tree::Block;
+use crate::tree::Alt;
+use crate::tree::Arm;
 use crate::tree::Body;
-use crate::tree::Expr;
+use crate::tree::BodyId;
+use crate::tree::ExprId;
 use crate::tree::Name;
+use crate::tree::Span;
 use crate::tree::Stmt;
 use crate::tree::Tail;
-use std::alloc::Global;
-
-// One way of a match: a constructor, the names of its parts, and what is done.
-#[derive(Drop)]
-struct Way<B> {
-    ctor: Name,
-    names: Vec<Name>,
-    does: B,
-}
+use crate::tree::append;
 
 fn access(token: Token) -> Option<Access> {
     let Token::Keyword(key) = token else {
@@ -54,49 +47,28 @@ fn access(token: Token) -> Option<Access> {
 }
 
 // (x, y, ..), or nothing.
-fn names(cursor: &mut Cursor) -> Result<Vec<Name>, Fault> {
-    let mut found = Vec::new(cursor.heap);
+fn names(cursor: &mut Cursor) -> Result<Span, Fault> {
+    let start = cursor.nodes.names.len();
     if !cursor.accept(Sign::LeftParen) {
-        return Ok(found);
+        return Ok(Span { start, end: start });
     }
     for _ in 0..u64::MAX {
-        found.push(cursor.lower()?)?;
+        let name = cursor.lower()?;
+        cursor.nodes.names.push(name)?;
+        cursor.count(1);
         if !cursor.accept(Sign::Comma) {
             break;
         }
     }
     cursor.expect(Sign::RightParen)?;
-    Ok(found)
-}
-
-fn linked_block(heap: Global, mut items: Vec<Stmt>) -> Result<Block, Fault> {
-    let mut block = Block::Empty;
-    while let Some(item) = items.pop() {
-        block = Block::Then(Box::new(heap, item)?, Box::new(heap, block)?);
-    }
-    Ok(block)
-}
-
-fn linked_alts(heap: Global, mut items: Vec<Way<Block>>) -> Result<Alts, Fault> {
-    let mut alts = Alts::NoAlts;
-    while let Some(item) = items.pop() {
-        let block = Box::new(heap, item.does)?;
-        alts = Alts::Alt(item.ctor, item.names, block, Box::new(heap, alts)?);
-    }
-    Ok(alts)
-}
-
-fn linked_arms(heap: Global, mut items: Vec<Way<Body>>) -> Result<Arms, Fault> {
-    let mut arms = Arms::NoArms;
-    while let Some(item) = items.pop() {
-        let body = Box::new(heap, item.does)?;
-        arms = Arms::Arm(item.ctor, item.names, body, Box::new(heap, arms)?);
-    }
-    Ok(arms)
+    Ok(Span {
+        start,
+        end: cursor.nodes.names.len(),
+    })
 }
 
 // An expression, and the semicolon behind it.
-fn closed(cursor: &mut Cursor) -> Result<Expr, Fault> {
+fn closed(cursor: &mut Cursor) -> Result<ExprId, Fault> {
     let value = expression(cursor)?;
     cursor.expect(Sign::Semicolon)?;
     Ok(value)
@@ -143,17 +115,13 @@ fn conditional(cursor: &mut Cursor, depth: usize) -> Result<Stmt, Fault> {
     let yes = block(cursor, depth)?;
     cursor.expect_keyword(Keyword::Else)?;
     let no = block(cursor, depth)?;
-    Ok(Stmt::If(
-        test,
-        Box::new(cursor.heap, yes)?,
-        Box::new(cursor.heap, no)?,
-    ))
+    Ok(Stmt::If(test, yes, no))
 }
 
 fn looping(cursor: &mut Cursor, depth: usize) -> Result<Stmt, Fault> {
     let test = expression(cursor)?;
     let does = block(cursor, depth)?;
-    Ok(Stmt::While(test, Box::new(cursor.heap, does)?))
+    Ok(Stmt::While(test, does))
 }
 
 fn matching(cursor: &mut Cursor, depth: usize, way: Access) -> Result<Stmt, Fault> {
@@ -165,11 +133,11 @@ fn matching(cursor: &mut Cursor, depth: usize, way: Access) -> Result<Stmt, Faul
         }
         let ctor = cursor.upper()?;
         let names = names(cursor)?;
-        let does = block(cursor, depth)?;
-        ways.push(Way { ctor, names, does })?;
+        let block = block(cursor, depth)?;
+        ways.push(Alt { ctor, names, block })?;
     }
-    let alts = linked_alts(cursor.heap, ways)?;
-    Ok(Stmt::Match(way, name, Box::new(cursor.heap, alts)?))
+    let alts = append(&mut cursor.nodes.alts, &ways)?;
+    Ok(Stmt::Match(way, name, alts))
 }
 
 fn statement(cursor: &mut Cursor, depth: usize) -> Result<Stmt, Fault> {
@@ -197,19 +165,20 @@ fn statement(cursor: &mut Cursor, depth: usize) -> Result<Stmt, Fault> {
 }
 
 // Statements up to } or give, which stay.
-fn statements(cursor: &mut Cursor, depth: usize) -> Result<Block, Fault> {
+fn statements(cursor: &mut Cursor, depth: usize) -> Result<Span, Fault> {
     let mut items = Vec::new(cursor.heap);
     for _ in 0..u64::MAX {
         if cursor.is_at_sign(Sign::RightBrace) || cursor.is_at_keyword(Keyword::Give) {
             break;
         }
         let item = statement(cursor, depth)?;
+        cursor.count(1);
         items.push(item)?;
     }
-    linked_block(cursor.heap, items)
+    append(&mut cursor.nodes.stmts, &items)
 }
 
-fn block(cursor: &mut Cursor, depth: usize) -> Result<Block, Fault> {
+fn block(cursor: &mut Cursor, depth: usize) -> Result<Span, Fault> {
     if depth == 0 {
         return Err(Fault::TooDeep);
     }
@@ -224,11 +193,7 @@ fn giving_if(cursor: &mut Cursor, depth: usize) -> Result<Tail, Fault> {
     let yes = body(cursor, depth)?;
     cursor.expect_keyword(Keyword::Else)?;
     let no = body(cursor, depth)?;
-    Ok(Tail::GiveIf(
-        test,
-        Box::new(cursor.heap, yes)?,
-        Box::new(cursor.heap, no)?,
-    ))
+    Ok(Tail::GiveIf(test, yes, no))
 }
 
 fn giving_match(cursor: &mut Cursor, depth: usize, way: Access) -> Result<Tail, Fault> {
@@ -240,11 +205,12 @@ fn giving_match(cursor: &mut Cursor, depth: usize, way: Access) -> Result<Tail, 
         }
         let ctor = cursor.upper()?;
         let names = names(cursor)?;
-        let does = body(cursor, depth)?;
-        ways.push(Way { ctor, names, does })?;
+        let body = body(cursor, depth)?;
+        ways.push(Arm { ctor, names, body })?;
     }
-    let arms = linked_arms(cursor.heap, ways)?;
-    Ok(Tail::GiveMatch(way, name, Box::new(cursor.heap, arms)?))
+    let arms = append(&mut cursor.nodes.arms, &ways)?;
+    cursor.count(1);
+    Ok(Tail::GiveMatch(way, name, arms))
 }
 
 // Behind give.
@@ -260,14 +226,16 @@ fn tail(cursor: &mut Cursor, depth: usize) -> Result<Tail, Fault> {
     Ok(Tail::Give(expression(cursor)?))
 }
 
-pub fn body(cursor: &mut Cursor, depth: usize) -> Result<Body, Fault> {
+pub fn body(cursor: &mut Cursor, depth: usize) -> Result<BodyId, Fault> {
     if depth == 0 {
         return Err(Fault::TooDeep);
     }
     cursor.expect(Sign::LeftBrace)?;
-    let does = statements(cursor, depth - 1)?;
+    let block = statements(cursor, depth - 1)?;
     cursor.expect_keyword(Keyword::Give)?;
-    let gives = tail(cursor, depth - 1)?;
+    let tail = tail(cursor, depth - 1)?;
     cursor.expect(Sign::RightBrace)?;
-    Ok(Body::Of(does, Box::new(cursor.heap, gives)?))
+    let id = BodyId(cursor.nodes.bodies.len());
+    cursor.nodes.bodies.push(Body { block, tail })?;
+    Ok(id)
 }

@@ -6,13 +6,14 @@ use crate::token::Keyword;
 use crate::token::Sign;
 use crate::token::Token;
 use crate::tree::Expr;
-use crate::tree::Exprs;
+use crate::tree::ExprId;
 use crate::tree::Name;
 use crate::tree::Operator;
-use std::alloc::Global;
+use crate::tree::Span;
+use crate::tree::append;
 
-// As much may be open at a time: more is too deep.
-const MOST_OPEN: usize = 100_000;
+// No arguments.
+const NOTHING: Span = Span { start: 0, end: 0 };
 
 #[derive(Clone, Copy)]
 enum Callee {
@@ -25,8 +26,13 @@ enum Callee {
 enum Pending {
     Paren,
     BoxOf,
-    Left(Operator, Expr),
-    Arguments(Callee, Vec<Expr>),
+    Left(Operator, ExprId),
+    Arguments(Callee, Vec<ExprId>),
+}
+
+// A new expression that is an operand.
+fn whole(cursor: &mut Cursor, one: Expr) -> Result<Option<ExprId>, Fault> {
+    Ok(Some(cursor.expr(one)?))
 }
 
 // How tightly an operator binds: comparisons 1, sums 2, products 3.
@@ -63,52 +69,33 @@ fn operator(token: Token) -> Option<Operator> {
     }
 }
 
-// The expressions as a list, in order.
-fn linked(heap: Global, mut items: Vec<Expr>) -> Result<Exprs, Fault> {
-    let mut list = Exprs::End;
-    while let Some(item) = items.pop() {
-        list = Exprs::Link(Box::new(heap, item)?, Box::new(heap, list)?);
-    }
-    Ok(list)
-}
-
-fn applied(heap: Global, callee: Callee, items: Vec<Expr>) -> Result<Expr, Fault> {
-    let list = Box::new(heap, linked(heap, items)?)?;
-    Ok(
+fn applied(cursor: &mut Cursor, callee: Callee, items: &Vec<ExprId>) -> Result<ExprId, Fault> {
+    let span = append(&mut cursor.nodes.args, items)?;
+    cursor.expr(
         match callee {
-            Callee::Constructor(name) => Expr::Construct(name, list),
-            Callee::Function(name) => Expr::Call(name, list),
+            Callee::Constructor(name) => Expr::Construct(name, span),
+            Callee::Function(name) => Expr::Call(name, span),
         },
     )
 }
 
-fn binary(heap: Global, op: Operator, left: Expr, right: Expr) -> Result<Expr, Fault> {
-    let left = Box::new(heap, left)?;
-    let right = Box::new(heap, right)?;
-    Ok(Expr::Binary(op, left, right))
-}
-
-// Opens something, where there is room for it.
-fn open(pending: &mut Vec<Pending>, one: Pending) -> Result<(), Fault> {
-    if pending.len() >= MOST_OPEN {
-        return Err(Fault::TooDeep);
-    }
-    pending.push(one)?;
-    Ok(())
-}
-
 // Joins the operand with what is open and binds at least so tightly.
-fn fold(heap: Global, pending: &mut Vec<Pending>, least: u8, operand: Expr) -> Result<Expr, Fault> {
+fn fold(
+    cursor: &mut Cursor,
+    pending: &mut Vec<Pending>,
+    least: u8,
+    operand: ExprId,
+) -> Result<ExprId, Fault> {
     let mut whole = operand;
     while let Some(top) = pending.pop() {
         match top {
-            Pending::BoxOf => whole = Expr::Boxed(Box::new(heap, whole)?),
+            Pending::BoxOf => whole = cursor.expr(Expr::Boxed(whole))?,
             Pending::Left(op, left) => {
                 if level(op) < least {
                     pending.push(Pending::Left(op, left))?;
                     return Ok(whole);
                 }
-                whole = binary(heap, op, left, whole)?;
+                whole = cursor.expr(Expr::Binary(op, left, whole))?;
             }
             Pending::Paren => {
                 pending.push(Pending::Paren)?;
@@ -128,17 +115,14 @@ fn after_lower(
     cursor: &mut Cursor,
     pending: &mut Vec<Pending>,
     name: Name,
-) -> Result<Option<Expr>, Fault> {
+) -> Result<Option<ExprId>, Fault> {
     if !cursor.accept(Sign::LeftParen) {
-        return Ok(Some(Expr::Variable(name)));
+        return whole(cursor, Expr::Variable(name));
     }
     if cursor.accept(Sign::RightParen) {
-        return Ok(Some(Expr::Call(name, Box::new(cursor.heap, Exprs::End)?)));
+        return whole(cursor, Expr::Call(name, NOTHING));
     }
-    open(
-        pending,
-        Pending::Arguments(Callee::Function(name), Vec::new(cursor.heap)),
-    )?;
+    pending.push(Pending::Arguments(Callee::Function(name), Vec::new(cursor.heap)))?;
     Ok(None)
 }
 
@@ -146,14 +130,11 @@ fn after_upper(
     cursor: &mut Cursor,
     pending: &mut Vec<Pending>,
     name: Name,
-) -> Result<Option<Expr>, Fault> {
+) -> Result<Option<ExprId>, Fault> {
     if !cursor.accept(Sign::LeftParen) {
-        return Ok(Some(Expr::Construct(name, Box::new(cursor.heap, Exprs::End)?)));
+        return whole(cursor, Expr::Construct(name, NOTHING));
     }
-    open(
-        pending,
-        Pending::Arguments(Callee::Constructor(name), Vec::new(cursor.heap)),
-    )?;
+    pending.push(Pending::Arguments(Callee::Constructor(name), Vec::new(cursor.heap)))?;
     Ok(None)
 }
 
@@ -161,20 +142,24 @@ fn after_sign(
     cursor: &mut Cursor,
     pending: &mut Vec<Pending>,
     sign: Sign,
-) -> Result<Option<Expr>, Fault> {
+) -> Result<Option<ExprId>, Fault> {
     match sign {
         Sign::LeftParen => {
-            open(pending, Pending::Paren)?;
+            pending.push(Pending::Paren)?;
             Ok(None)
         }
-        Sign::Star => Ok(Some(Expr::Load(cursor.lower()?))),
+        Sign::Star => {
+            let name = cursor.lower()?;
+            whole(cursor, Expr::Load(name))
+        }
         Sign::And => {
             if cursor.is_at_keyword(Keyword::Mut) {
                 cursor.skip();
-                Ok(Some(Expr::Lend(cursor.lower()?)))
-            } else {
-                Ok(Some(Expr::Share(cursor.lower()?)))
+                let name = cursor.lower()?;
+                return whole(cursor, Expr::Lend(name));
             }
+            let name = cursor.lower()?;
+            whole(cursor, Expr::Share(name))
         }
         Sign::RightParen
         | Sign::LeftBrace
@@ -194,15 +179,15 @@ fn after_sign(
 }
 
 // The next operand, or none where something was opened before it.
-fn operand(cursor: &mut Cursor, pending: &mut Vec<Pending>) -> Result<Option<Expr>, Fault> {
+fn operand(cursor: &mut Cursor, pending: &mut Vec<Pending>) -> Result<Option<ExprId>, Fault> {
     match cursor.next() {
-        Token::Number(value) => Ok(Some(Expr::Number(value))),
+        Token::Number(value) => whole(cursor, Expr::Number(value)),
         Token::Lower(name) => after_lower(cursor, pending, name),
         Token::Upper(name) => after_upper(cursor, pending, name),
         Token::Sign(sign) => after_sign(cursor, pending, sign),
-        Token::Keyword(Keyword::Get) => Ok(Some(Expr::Get)),
+        Token::Keyword(Keyword::Get) => whole(cursor, Expr::Get),
         Token::Keyword(Keyword::Box) => {
-            open(pending, Pending::BoxOf)?;
+            pending.push(Pending::BoxOf)?;
             Ok(None)
         }
         Token::Keyword(_) | Token::Unknown | Token::End => Err(Fault::NoText),
@@ -222,23 +207,18 @@ fn compares(pending: &Vec<Pending>) -> bool {
 fn as_left(
     cursor: &mut Cursor,
     pending: &mut Vec<Pending>,
-    whole: Expr,
-) -> Result<Option<Expr>, Fault> {
+    whole: ExprId,
+) -> Result<Option<ExprId>, Fault> {
     let Some(op) = operator(cursor.peek()) else {
         return Ok(Some(whole));
     };
     let least = level(op);
-    let left = fold(
-        cursor.heap,
-        pending,
-        if least == 1 { 2 } else { least },
-        whole,
-    )?;
+    let left = fold(cursor, pending, if least == 1 { 2 } else { least }, whole)?;
     if least == 1 && compares(pending) {
         return Ok(Some(left));
     }
     cursor.skip();
-    open(pending, Pending::Left(op, left))?;
+    pending.push(Pending::Left(op, left))?;
     Ok(None)
 }
 
@@ -247,8 +227,8 @@ fn close(
     cursor: &mut Cursor,
     pending: &mut Vec<Pending>,
     top: Pending,
-    value: Expr,
-) -> Result<Option<Expr>, Fault> {
+    value: ExprId,
+) -> Result<Option<ExprId>, Fault> {
     match top {
         Pending::Paren => {
             cursor.expect(Sign::RightParen)?;
@@ -261,10 +241,10 @@ fn close(
                 return Ok(None);
             }
             cursor.expect(Sign::RightParen)?;
-            Ok(Some(applied(cursor.heap, callee, done)?))
+            Ok(Some(applied(cursor, callee, &done)?))
         }
-        Pending::BoxOf => Ok(Some(Expr::Boxed(Box::new(cursor.heap, value)?))),
-        Pending::Left(op, left) => Ok(Some(binary(cursor.heap, op, left, value)?)),
+        Pending::BoxOf => whole(cursor, Expr::Boxed(value)),
+        Pending::Left(op, left) => whole(cursor, Expr::Binary(op, left, value)),
     }
 }
 
@@ -272,14 +252,14 @@ fn close(
 fn behind(
     cursor: &mut Cursor,
     pending: &mut Vec<Pending>,
-    first: Expr,
-) -> Result<Option<Expr>, Fault> {
+    first: ExprId,
+) -> Result<Option<ExprId>, Fault> {
     let mut whole = first;
     for _ in 0..u64::MAX {
         let Some(value) = as_left(cursor, pending, whole)? else {
             return Ok(None);
         };
-        let value = fold(cursor.heap, pending, 1, value)?;
+        let value = fold(cursor, pending, 1, value)?;
         let Some(top) = pending.pop() else {
             return Ok(Some(value));
         };
@@ -291,7 +271,7 @@ fn behind(
     Err(Fault::TooDeep)
 }
 
-pub fn expression(cursor: &mut Cursor) -> Result<Expr, Fault> {
+pub fn expression(cursor: &mut Cursor) -> Result<ExprId, Fault> {
     let mut pending = Vec::new(cursor.heap);
     for _ in 0..u64::MAX {
         if let Some(first) = operand(cursor, &mut pending)? {

@@ -1,16 +1,44 @@
-// Programs as trees. A list in a tree is made of links, since a type may reach itself through a `Box` alone.
+// Programs as trees. The nodes lie in lists, one for each kind, and a node has its parts by their numbers: so a tree is let go without
+// going down into it, however deep it is, and what runs it can keep numbers in place of references.
+use crate::fault::Fault;
+use crate::fault::FaultFromRefused;
+use std::alloc::Global;
 
 // A name, by its number among the names of the text: equal names have equal numbers.
 #[derive(Clone, Copy, PartialEq, Eq)]
 pub struct Name(pub usize);
 
-#[derive(Drop)]
-pub enum Type {
+#[derive(Clone, Copy)]
+pub struct ExprId(pub usize);
+
+#[derive(Clone, Copy)]
+pub struct BodyId(pub usize);
+
+// Nodes of one kind that lie one behind the other.
+#[derive(Clone, Copy)]
+pub struct Span {
+    pub start: usize,
+    pub end: usize,
+}
+
+// What stands before a type's name.
+#[derive(Clone, Copy)]
+pub enum Prefix {
+    Box,
+    Ref,
+    Mut,
+}
+
+#[derive(Clone, Copy)]
+pub enum Base {
     Int,
     Data(Name),
-    Box(Box<Type>),
-    Ref(Box<Type>),
-    Mut(Box<Type>),
+}
+
+#[derive(Drop)]
+pub struct Type {
+    pub prefixes: Vec<Prefix>,
+    pub base: Base,
 }
 
 #[derive(Clone, Copy)]
@@ -24,13 +52,14 @@ pub enum Operator {
     Less,
 }
 
+#[derive(Clone, Copy)]
 pub enum Expr {
     Number(u64),
     Variable(Name),
-    Binary(Operator, Box<Expr>, Box<Expr>),
-    Construct(Name, Box<Exprs>),
-    Boxed(Box<Expr>),
-    Call(Name, Box<Exprs>),
+    Binary(Operator, ExprId, ExprId),
+    Construct(Name, Span),
+    Boxed(ExprId),
+    Call(Name, Span),
     // &x
     Share(Name),
     // &mut x
@@ -38,11 +67,6 @@ pub enum Expr {
     // *r
     Load(Name),
     Get,
-}
-
-pub enum Exprs {
-    End,
-    Link(Box<Expr>, Box<Exprs>),
 }
 
 // How a match comes at what it looks into.
@@ -53,45 +77,62 @@ pub enum Access {
     Edit,
 }
 
+#[derive(Clone, Copy)]
 pub enum Stmt {
-    Bind(Name, Expr),
-    Assign(Name, Expr),
+    Bind(Name, ExprId),
+    Assign(Name, ExprId),
     // *r = e
-    Store(Name, Expr),
-    Put(Expr),
-    If(Expr, Box<Block>, Box<Block>),
-    While(Expr, Box<Block>),
-    Match(Access, Name, Box<Alts>),
+    Store(Name, ExprId),
+    Put(ExprId),
+    If(ExprId, Span, Span),
+    While(ExprId, Span),
+    Match(Access, Name, Span),
     // let x = open y, let x = inside y
     Open(Name, Name),
     Inside(Name, Name),
 }
 
-// Statements, one behind the other.
-pub enum Block {
-    Empty,
-    Then(Box<Stmt>, Box<Block>),
-}
-
-pub enum Alts {
-    NoAlts,
-    Alt(Name, Vec<Name>, Box<Block>, Box<Alts>),
+// One way of a match between statements: a constructor, the names of its parts, and the statements.
+#[derive(Clone, Copy)]
+pub struct Alt {
+    pub ctor: Name,
+    pub names: Span,
+    pub block: Span,
 }
 
 // A function's body: statements, and what it gives.
-pub enum Body {
-    Of(Block, Box<Tail>),
+#[derive(Clone, Copy)]
+pub struct Body {
+    pub block: Span,
+    pub tail: Tail,
 }
 
+#[derive(Clone, Copy)]
 pub enum Tail {
-    Give(Expr),
-    GiveIf(Expr, Box<Body>, Box<Body>),
-    GiveMatch(Access, Name, Box<Arms>),
+    Give(ExprId),
+    GiveIf(ExprId, BodyId, BodyId),
+    GiveMatch(Access, Name, Span),
 }
 
-pub enum Arms {
-    NoArms,
-    Arm(Name, Vec<Name>, Box<Body>, Box<Arms>),
+// One way of a match that gives something.
+#[derive(Clone, Copy)]
+pub struct Arm {
+    pub ctor: Name,
+    pub names: Span,
+    pub body: BodyId,
+}
+
+#[derive(Drop)]
+pub struct Nodes {
+    pub exprs: Vec<Expr>,
+    // the arguments of calls and constructors
+    pub args: Vec<ExprId>,
+    pub stmts: Vec<Stmt>,
+    pub alts: Vec<Alt>,
+    pub arms: Vec<Arm>,
+    pub bodies: Vec<Body>,
+    // the names in patterns
+    pub names: Vec<Name>,
 }
 
 #[derive(Drop)]
@@ -119,142 +160,42 @@ pub struct Function {
     pub name: Name,
     pub params: Vec<Param>,
     pub gives: Type,
-    pub body: Body,
+    pub body: BodyId,
+    // the pieces of the body; 2^64 - 1 stands for more
+    pub pieces: u64,
 }
 
 #[derive(Drop)]
 pub struct Program {
     pub datas: Vec<Data>,
     pub functions: Vec<Function>,
+    pub nodes: Nodes,
     // the name main, if the text has it
     pub main: Option<Name>,
 }
 
-// Trees are let go by loops along their lists and along the left sides of operators, so that a long text uses little of the host's stack.
-impl Drop for Expr {
-    fn drop(mut self) {
-        loop {
-            match self {
-                Expr::Number(_)
-                | Expr::Variable(_)
-                | Expr::Share(_)
-                | Expr::Lend(_)
-                | Expr::Load(_)
-                | Expr::Get => return,
-                Expr::Binary(_, left, right) => {
-                    let _right = Box::into_inner(right);
-                    self = Box::into_inner(left);
-                }
-                Expr::Construct(_, args) => {
-                    let _args = Box::into_inner(args);
-                    return;
-                }
-                Expr::Call(_, args) => {
-                    let _args = Box::into_inner(args);
-                    return;
-                }
-                Expr::Boxed(inner) => self = Box::into_inner(inner),
-            }
+impl Nodes {
+    pub fn new(heap: Global) -> Self {
+        Nodes {
+            exprs: Vec::new(heap),
+            args: Vec::new(heap),
+            stmts: Vec::new(heap),
+            alts: Vec::new(heap),
+            arms: Vec::new(heap),
+            bodies: Vec::new(heap),
+            names: Vec::new(heap),
         }
     }
 }
 
-impl Drop for Exprs {
-    fn drop(mut self) {
-        loop {
-            match self {
-                Exprs::End => return,
-                Exprs::Link(first, rest) => {
-                    let _first = Box::into_inner(first);
-                    self = Box::into_inner(rest);
-                }
-            }
-        }
+// Puts nodes behind those that are there: where they lie.
+pub fn append<T: Copy>(list: &mut Vec<T>, more: &Vec<T>) -> Result<Span, Fault> {
+    let start = list.len();
+    for one in more.iter() {
+        list.push(*one)?;
     }
-}
-
-impl Drop for Stmt {
-    fn drop(self) {
-        match self {
-            Stmt::Bind(_, _value)
-            | Stmt::Assign(_, _value)
-            | Stmt::Store(_, _value)
-            | Stmt::Put(_value) => {}
-            Stmt::If(_test, yes, no) => {
-                let _yes = Box::into_inner(yes);
-                let _no = Box::into_inner(no);
-            }
-            Stmt::While(_test, block) => {
-                let _block = Box::into_inner(block);
-            }
-            Stmt::Match(_, _, alts) => {
-                let _alts = Box::into_inner(alts);
-            }
-            Stmt::Open(_, _) | Stmt::Inside(_, _) => {}
-        }
-    }
-}
-
-impl Drop for Block {
-    fn drop(mut self) {
-        loop {
-            match self {
-                Block::Empty => return,
-                Block::Then(first, rest) => {
-                    let _first = Box::into_inner(first);
-                    self = Box::into_inner(rest);
-                }
-            }
-        }
-    }
-}
-
-impl Drop for Alts {
-    fn drop(mut self) {
-        loop {
-            match self {
-                Alts::NoAlts => return,
-                Alts::Alt(_, _names, block, rest) => {
-                    let _block = Box::into_inner(block);
-                    self = Box::into_inner(rest);
-                }
-            }
-        }
-    }
-}
-
-impl Drop for Body {
-    fn drop(self) {
-        let Body::Of(_block, tail) = self;
-        let _tail = Box::into_inner(tail);
-    }
-}
-
-impl Drop for Tail {
-    fn drop(self) {
-        match self {
-            Tail::Give(_value) => {}
-            Tail::GiveIf(_test, yes, no) => {
-                let _yes = Box::into_inner(yes);
-                let _no = Box::into_inner(no);
-            }
-            Tail::GiveMatch(_, _, arms) => {
-                let _arms = Box::into_inner(arms);
-            }
-        }
-    }
-}
-
-impl Drop for Arms {
-    fn drop(mut self) {
-        loop {
-            match self {
-                Arms::NoArms => return,
-                Arms::Arm(_, _names, body, rest) => {
-                    let _body = Box::into_inner(body);
-                    self = Box::into_inner(rest);
-                }
-            }
-        }
-    }
+    Ok(Span {
+        start,
+        end: list.len(),
+    })
 }

@@ -1,143 +1,144 @@
-// Runs each text that the command line names, with all it takes and with one less of each: words for boxes, words under way,
-// turns, numbers shown. The numbers to read come from standard input, the same for each.
-use interpreter::run::GivenDisplay;
+// Runs the texts that its arguments name: with as much as each takes, and with one less of each thing that it takes. What a text reads
+// stands at its head, behind `# reads:`.
+use interpreter::input::numbers;
+use interpreter::run::Limits;
 use interpreter::run::Outcome;
-use interpreter::run::large;
 use interpreter::run::run_text;
-use model_memory::stop::StopDisplay;
-use model_state::state::Limits;
 use std::alloc::Global;
 use std::env;
 use std::error::AnyError;
 use std::fs;
-use std::io;
 
-// A text, and the numbers to read.
-#[derive(Drop)]
-struct Trial {
-    text: Vec<u8>,
-    inputs: Vec<u64>,
-}
-
-impl Trial {
-    fn run(&self, heap: Global, limits: Limits) -> Result<Outcome, AnyError> {
-        let inputs = self.inputs.clone()?;
-        Ok(run_text(heap, self.text.as_slice(), limits, inputs))
+// What a text reads, as its head has it.
+fn reads(text: &str) -> &str {
+    for line in text.lines() {
+        if let Some(rest) = line.strip_prefix("# reads:") {
+            return rest;
+        }
     }
+    ""
 }
 
-fn numbers(heap: Global, text: &str) -> Result<Vec<u64>, AnyError> {
-    let mut found = Vec::new(heap);
-    for word in text.split_ascii_whitespace() {
-        found.push(word.parse::<u64>()?)?;
+fn run(heap: Global, text: &str, limits: Limits) -> Result<Outcome, AnyError> {
+    let Ok(inputs) = numbers(heap, reads(text)) else {
+        return Err("not a number".into());
+    };
+    Ok(run_text(heap, text.as_bytes(), limits, inputs))
+}
+
+// How a run came out, in words.
+fn show_end(rt: &LibcRuntime, outcome: &Outcome) -> Result<(), AnyError> {
+    match outcome.end {
+        Ok(value) => print!(rt, "ended {value}")?,
+        Err(stop) => {
+            let what = stop.told();
+            print!(rt, "{what}")?
+        }
     }
-    Ok(found)
+    Ok(())
 }
 
-// Just what a run took.
-fn taken(outcome: &Outcome) -> Limits {
+// How a run with less comes out; where there was nothing to take away, a dash.
+fn show_less(rt: &LibcRuntime, text: &str, taken: u64, limits: Limits) -> Result<(), AnyError> {
+    if taken == 0 {
+        print!(rt, ", -")?;
+        return Ok(());
+    }
+    print!(rt, ", ")?;
+    let outcome = run(rt.alloc(), text, limits)?;
+    show_end(rt, &outcome)
+}
+
+// Just as much as a run used.
+fn exactly(outcome: &Outcome) -> Limits {
     let used = outcome.used;
-    let heap = u64::try_from(used.heap).unwrap_or(u64::MAX);
+    let heap = if used.heap > 0xffff_ffff_ffff_ffff {
+        u64::MAX
+    } else {
+        used.heap as u64
+    };
     Limits {
         heap,
         stack: used.stack,
         turns: used.turns,
         out: outcome.shown.len() as u64,
-        depth: large().depth,
+        depth: Limits::large().depth,
     }
 }
 
-fn show_end(rt: &LibcRuntime, label: &str, outcome: &Outcome) -> Result<(), AnyError> {
-    let count = outcome.shown.len();
-    match outcome.end {
-        Ok(value) => print!(rt, "; {label} ended {value}, {count} shown")?,
-        Err(stop) => print!(rt, "; {label} {stop}, {count} shown")?,
+// What was shown, how it ended, and what that took.
+fn show_whole(rt: &LibcRuntime, outcome: &Outcome, all: Limits) -> Result<(), AnyError> {
+    for k in outcome.shown.iter() {
+        print!(rt, " {k}")?;
     }
+    print!(rt, "; ")?;
+    show_end(rt, outcome)?;
+    let (heap, stack, turns) = (all.heap, all.stack, all.turns);
+    print!(rt, "; heap={heap} stack={stack} turns={turns}; just so: ")?;
     Ok(())
 }
 
-// One less of a limit, if there is any.
-fn show_less(
-    rt: &LibcRuntime,
-    trial: &Trial,
-    label: &str,
-    limits: Option<Limits>,
-) -> Result<(), AnyError> {
-    let Some(limits) = limits else {
-        return Ok(());
-    };
-    let outcome = trial.run(rt.alloc(), limits)?;
-    show_end(rt, label, &outcome)
-}
-
-fn less(number: u64) -> Option<u64> {
-    number.checked_sub(1)
-}
-
-fn less_heap(all: Limits) -> Option<Limits> {
-    Some(Limits {
-        heap: less(all.heap)?,
-        ..all
-    })
-}
-
-fn less_stack(all: Limits) -> Option<Limits> {
-    Some(Limits {
-        stack: less(all.stack)?,
-        ..all
-    })
-}
-
-fn less_turns(all: Limits) -> Option<Limits> {
-    Some(Limits {
-        turns: less(all.turns)?,
-        ..all
-    })
-}
-
-fn less_out(all: Limits) -> Option<Limits> {
-    Some(Limits {
-        out: less(all.out)?,
-        ..all
-    })
-}
-
-fn show_trial(rt: &LibcRuntime, name: &str, trial: &Trial) -> Result<(), AnyError> {
-    let first = trial.run(rt.alloc(), large())?;
-    let all = taken(&first);
-    let Limits {
-        heap,
-        stack,
-        turns,
-        out: _,
-        depth: _,
-    } = all;
-    print!(rt, "{name}: heap={heap} stack={stack} turns={turns}")?;
-    show_end(rt, "with all", &first)?;
-    let exact = trial.run(rt.alloc(), all)?;
-    show_end(rt, "with just that", &exact)?;
-    show_less(rt, trial, "boxes less", less_heap(all))?;
-    show_less(rt, trial, "stack less", less_stack(all))?;
-    show_less(rt, trial, "turns less", less_turns(all))?;
-    show_less(rt, trial, "output less", less_out(all))?;
+fn show(rt: &LibcRuntime, text: &str) -> Result<(), AnyError> {
+    let first = run(rt.alloc(), text, Limits::large())?;
+    let all = exactly(&first);
+    show_whole(rt, &first, all)?;
+    let again = run(rt.alloc(), text, all)?;
+    show_end(rt, &again)?;
+    print!(rt, "; one less")?;
+    show_less(
+        rt,
+        text,
+        all.heap,
+        Limits {
+            heap: all.heap.saturating_sub(1),
+            ..all
+        },
+    )?;
+    show_less(
+        rt,
+        text,
+        all.stack,
+        Limits {
+            stack: all.stack.saturating_sub(1),
+            ..all
+        },
+    )?;
+    show_less(
+        rt,
+        text,
+        all.turns,
+        Limits {
+            turns: all.turns.saturating_sub(1),
+            ..all
+        },
+    )?;
+    show_less(
+        rt,
+        text,
+        all.out,
+        Limits {
+            out: all.out.saturating_sub(1),
+            ..all
+        },
+    )?;
     println!(rt, "")?;
     Ok(())
 }
 
-fn run(rt: &LibcRuntime) -> Result<(), AnyError> {
-    let heap = rt.alloc();
-    let input = io::read_to_string(heap, rt.stdin())?;
+fn run_all(rt: &LibcRuntime) -> Result<(), AnyError> {
     let mut args = env::args(rt)?;
     let _ = args.next();
-    for name in args {
-        let text = fs::read(rt, name.as_str())?;
-        let inputs = numbers(heap, input.as_str())?;
-        let trial = Trial { text, inputs };
-        show_trial(rt, name.as_str(), &trial)?;
+    for _ in 0..u64::MAX {
+        let Some(name) = args.next() else {
+            break;
+        };
+        let text = fs::read_to_string(rt, name.as_str())?;
+        print!(rt, "{name}:")?;
+        show(rt, text.as_str())?;
     }
     Ok(())
 }
 
 fn main(rt: LibcRuntime) -> Result<(), AnyError> {
-    rt.report(run(&rt))
+    rt.report(run_all(&rt))
 }
