@@ -14,4 +14,4 @@ use Rattle.checker.proofs.Outcomes.{only_left, on_there, on_refused, steps_and, 
 use Rattle.checker.proofs.assigning.let_go.Goals as goal
 
 pub returns : goal.returns
-returns c = λ d s st. only_left d (lent c.args.source.now c.args.words.now) c.set-value.new.at (free2 [] (scope s) (spelling c.args.source.now.text.now c.args.name)) (some (rest s.names s.log s.frames)) (c.in-ok-free-by-names.ensures d s st) (c.set-value.ensures.stands d (lent c.args.source.now c.args.words.now) s int (c.int.ensures.is _ _) st)
+returns c = λ d s st. only_left d (lent c.args.source.now c.args.words.now) c.set_value.new.at (free2 [] (scope s) (spelling c.args.source.now.text.now c.args.name)) (some (rest s.names s.log s.frames)) (c.in_ok-free_by_names.ensures d s st) (c.set_value.ensures.stands d (lent c.args.source.now c.args.words.now) s int (c.int.ensures.is _ _) st)

@@ -14,5 +14,5 @@ use Rattle.checker.proofs.Outcomes.{only_left, on_there, on_refused, steps_and, 
 use Rattle.checker.proofs.assigning.put_back.Goals as goal
 
 pub returns : goal.returns
-returns c = λ d s f l st. only_left d (lent c.args.source.now c.set_gone.new.words) c.set_gone.new.at (free2 [] (scope s) (spelling c.args.source.now.text.now c.args.name)) (some (rest s.names (gone_at (length f.older) false ∷ s.log) s.frames)) (c.in-ok-free-by-names.ensures d s st)
-    (subst (λ (k : ℕ). Stands d (lent c.args.source.now c.set_gone.new.words) c.set_gone.new.at (state int [] s.names (gone_at k false ∷ s.log) s.frames)) (sym l) (c.set_gone.ensures.stands d c.args.source.now.text.now c.args.source.now.code.now _ (c.set-value.ensures.stands d (lent c.args.source.now c.args.words.now) s int (c.int.ensures.is _ _) st)))
+returns c = λ d s f l st. only_left d (lent c.args.source.now c.set_gone.new.words) c.set_gone.new.at (free2 [] (scope s) (spelling c.args.source.now.text.now c.args.name)) (some (rest s.names (gone_at (length f.older) false ∷ s.log) s.frames)) (c.in_ok-free_by_names.ensures d s st)
+    (subst (λ (k : ℕ). Stands d (lent c.args.source.now c.set_gone.new.words) c.set_gone.new.at (state int [] s.names (gone_at k false ∷ s.log) s.frames)) (sym l) (c.set_gone.ensures.stands d c.args.source.now.text.now c.args.source.now.code.now _ (c.set_value.ensures.stands d (lent c.args.source.now c.args.words.now) s int (c.int.ensures.is _ _) st)))

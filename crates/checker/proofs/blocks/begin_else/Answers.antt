@@ -12,19 +12,19 @@ abbrev next : State2 → List Slot → Log → List Mark → Option State2
 next s vs l ks = some (rest [] [] (k_else vs l s.log ∷ ks))
 
 pub returns-in-Then : goal.returns-in-Then
-returns-in-Then c = λ d text code p s st. c.turn-else.ensures d text code p s (newest_as d (lent_in text code c.args.words.now) c.args.at.now.frames (tops c.args.at.now) c.in-Then.is (c.in-ok-newest.ensures.is d text code s st)) st
+returns-in-Then c = λ d text code p s st. c.turn_else.ensures d text code p s (newest_as d (lent_in text code c.args.words.now) c.args.at.now.frames (tops c.args.at.now) c.in-Then.is (c.in_ok-newest.ensures.is d text code s st)) st
 
 pub returns-in-Call : goal.returns-in-Call
-returns-in-Call c = λ d text code p s st. not_then d (lent_in text code c.args.words.now) c.args.at.now.frames (tops c.args.at.now) s.frames (next s) (newest_as d (lent_in text code c.args.words.now) c.args.at.now.frames (tops c.args.at.now) c.in-Call.is (c.in-ok-newest.ensures.is d text code s st)) refl
+returns-in-Call c = λ d text code p s st. not_then d (lent_in text code c.args.words.now) c.args.at.now.frames (tops c.args.at.now) s.frames (next s) (newest_as d (lent_in text code c.args.words.now) c.args.at.now.frames (tops c.args.at.now) c.in-Call.is (c.in_ok-newest.ensures.is d text code s st)) refl
 
 pub returns-in-Else : goal.returns-in-Else
-returns-in-Else c = λ d text code p s st. not_then d (lent_in text code c.args.words.now) c.args.at.now.frames (tops c.args.at.now) s.frames (next s) (newest_as d (lent_in text code c.args.words.now) c.args.at.now.frames (tops c.args.at.now) c.in-Else.is (c.in-ok-newest.ensures.is d text code s st)) refl
+returns-in-Else c = λ d text code p s st. not_then d (lent_in text code c.args.words.now) c.args.at.now.frames (tops c.args.at.now) s.frames (next s) (newest_as d (lent_in text code c.args.words.now) c.args.at.now.frames (tops c.args.at.now) c.in-Else.is (c.in_ok-newest.ensures.is d text code s st)) refl
 
 pub returns-in-Test : goal.returns-in-Test
-returns-in-Test c = λ d text code p s st. not_then d (lent_in text code c.args.words.now) c.args.at.now.frames (tops c.args.at.now) s.frames (next s) (newest_as d (lent_in text code c.args.words.now) c.args.at.now.frames (tops c.args.at.now) c.in-Test.is (c.in-ok-newest.ensures.is d text code s st)) refl
+returns-in-Test c = λ d text code p s st. not_then d (lent_in text code c.args.words.now) c.args.at.now.frames (tops c.args.at.now) s.frames (next s) (newest_as d (lent_in text code c.args.words.now) c.args.at.now.frames (tops c.args.at.now) c.in-Test.is (c.in_ok-newest.ensures.is d text code s st)) refl
 
 pub returns-in-Loop : goal.returns-in-Loop
-returns-in-Loop c = λ d text code p s st. not_then d (lent_in text code c.args.words.now) c.args.at.now.frames (tops c.args.at.now) s.frames (next s) (newest_as d (lent_in text code c.args.words.now) c.args.at.now.frames (tops c.args.at.now) c.in-Loop.is (c.in-ok-newest.ensures.is d text code s st)) refl
+returns-in-Loop c = λ d text code p s st. not_then d (lent_in text code c.args.words.now) c.args.at.now.frames (tops c.args.at.now) s.frames (next s) (newest_as d (lent_in text code c.args.words.now) c.args.at.now.frames (tops c.args.at.now) c.in-Loop.is (c.in_ok-newest.ensures.is d text code s st)) refl
 
 pub returns-in-Match : goal.returns-in-Match
-returns-in-Match c = λ d text code p s st. not_then d (lent_in text code c.args.words.now) c.args.at.now.frames (tops c.args.at.now) s.frames (next s) (newest_as d (lent_in text code c.args.words.now) c.args.at.now.frames (tops c.args.at.now) c.in-Match.is (c.in-ok-newest.ensures.is d text code s st)) refl
+returns-in-Match c = λ d text code p s st. not_then d (lent_in text code c.args.words.now) c.args.at.now.frames (tops c.args.at.now) s.frames (next s) (newest_as d (lent_in text code c.args.words.now) c.args.at.now.frames (tops c.args.at.now) c.in-Match.is (c.in_ok-newest.ensures.is d text code s st)) refl

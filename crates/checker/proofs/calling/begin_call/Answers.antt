@@ -15,5 +15,5 @@ returns c = λ s st.
     let f = c.args.function in
     let d = decls_of f in
     let g = c.gives-gives.ensures in
-    subst (λ (x : Option Sig). Left d (lent_to f c.push-call.new.words) c.push-call.new.at (if_some x (λ k. some (rest s.names s.log (k_call (types_of_pars k.params) k.ret [] ∷ s.frames))))) (sym c.in-Some.ensures.0)
-    (c.push-call.ensures d f.tables.text.now f.tables.code.now s (types_of_pars (the_sig f.tables c.in-Some.callee.0).params) (the_sig f.tables c.in-Some.callee.0).ret (params_whole f.tables c.params-of-params.result c.params-of-params.ensures.within ∙ sym (ap types_of_pars c.params-of-params.ensures.is)) (plain_base f.tables.text.now f.tables.code.now c.gives-gives.result g.plain g.boxes ∙ g.is) st)
+    subst (λ (x : Option Sig). Left d (lent_to f c.push_call.new.words) c.push_call.new.at (if_some x (λ k. some (rest s.names s.log (k_call (types_of_pars k.params) k.ret [] ∷ s.frames))))) (sym c.in-Some.ensures.0)
+    (c.push_call.ensures d f.tables.text.now f.tables.code.now s (types_of_pars (the_sig f.tables c.in-Some.callee.0).params) (the_sig f.tables c.in-Some.callee.0).ret (params_whole f.tables c.params_of-params.result c.params_of-params.ensures.within ∙ sym (ap types_of_pars c.params_of-params.ensures.is)) (plain_base f.tables.text.now f.tables.code.now c.gives-gives.result g.plain g.boxes ∙ g.is) st)

@@ -16,5 +16,5 @@ returns c = λ s st.
     let d = decls_of f in
     let o = c.in-Some.owner in
     let home = c.in-Some.ensures.0 in
-    subst (λ (x : Option Home). Left d (lent_to f c.push-call.new.words) c.push-call.new.at (if_some x (λ h. some (rest s.names s.log (k_call h.ctor1.fields (dat h.data1.name) [] ∷ s.frames))))) (sym home)
-    (c.push-call.ensures d f.tables.text.now f.tables.code.now s (the_ctor f.tables o.ctor.0).fields (dat (the_data f.tables o.of.0).name) (fields_whole f.tables c.fields-of-fields.result c.fields-of-fields.ensures.within ∙ sym c.fields-of-fields.ensures.is) (ap dat c.data-name.ensures) st)
+    subst (λ (x : Option Home). Left d (lent_to f c.push_call.new.words) c.push_call.new.at (if_some x (λ h. some (rest s.names s.log (k_call h.ctor1.fields (dat h.data1.name) [] ∷ s.frames))))) (sym home)
+    (c.push_call.ensures d f.tables.text.now f.tables.code.now s (the_ctor f.tables o.ctor.0).fields (dat (the_data f.tables o.of.0).name) (fields_whole f.tables c.fields_of-fields.result c.fields_of-fields.ensures.within ∙ sym c.fields_of-fields.ensures.is) (ap dat c.data_name.ensures) st)

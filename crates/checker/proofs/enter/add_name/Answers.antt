@@ -9,16 +9,16 @@ returns c = record {
   stands = λ d text code s bit st.
       let w = c.args.words.now in
       let h = c.args.at.now in
-      let ls = c.copy-loans.new.words.loans.now in
+      let ls = c.copy_loans.new.words.loans.now in
       let ns = c.store.new.words in
-      name_stands d (lent_in text code w) h s st ls ns c.args.name c.args.of-caller c.int-at.result (c.int-at.ensures.is text code) c.store.ensures.this
-      (c.store.ensures.below text code ls h.names h.loans (omega arith) ∙ ap (λ x. slots_of text code x.names ls h.names h.loans) (c.copy-loans.ensures.kept text code))
-      (c.copy-loans.ensures.below text) (c.copy-loans.ensures.copied text)
-      (λ k p. c.store.ensures.older k p ∙ ap (λ x. variable_at x.names k) (c.copy-loans.ensures.kept text code)) bit
-      c.copy-loans.ensures.long (let e : length ns ≡ length c.copy-loans.new.words.names.now = omega arith in e ∙ ap (λ x. length x.names) (c.copy-loans.ensures.kept [] []))
-      (with_names (lent_in text code c.copy-loans.new.words) ns) (ap (λ x. with_names x ns) (c.copy-loans.ensures.kept text code));
-  log = (refl, ap (λ x. x.log) (c.copy-loans.ensures.kept [] []));
+      name_stands d (lent_in text code w) h s st ls ns c.args.name c.args.of_caller c.int-at.result (c.int-at.ensures.is text code) c.store.ensures.this
+      (c.store.ensures.below text code ls h.names h.loans (omega arith) ∙ ap (λ x. slots_of text code x.names ls h.names h.loans) (c.copy_loans.ensures.kept text code))
+      (c.copy_loans.ensures.below text) (c.copy_loans.ensures.copied text)
+      (λ k p. c.store.ensures.older k p ∙ ap (λ x. variable_at x.names k) (c.copy_loans.ensures.kept text code)) bit
+      c.copy_loans.ensures.long (let e : length ns ≡ length c.copy_loans.new.words.names.now = omega arith in e ∙ ap (λ x. length x.names) (c.copy_loans.ensures.kept [] []))
+      (with_names (lent_in text code c.copy_loans.new.words) ns) (ap (λ x. with_names x ns) (c.copy_loans.ensures.kept text code));
+  log = (refl, ap (λ x. x.log) (c.copy_loans.ensures.kept [] []));
 }
 
 pub store-requires : goal.store-requires
-store-requires c = let e : length c.copy-loans.new.words.names.now ≡ length c.args.words.now.names.now = ap (λ x. length x.names) (c.copy-loans.ensures.kept [] []) in omega arith
+store-requires c = let e : length c.copy_loans.new.words.names.now ≡ length c.args.words.now.names.now = ap (λ x. length x.names) (c.copy_loans.ensures.kept [] []) in omega arith

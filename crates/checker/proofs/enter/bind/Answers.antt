@@ -10,4 +10,4 @@ pub returns : goal.returns
 returns c = λ p s st.
     let f = c.args.function in
     let x = spelled f.tables c.args.name in
-    only_left (decls_of f) (lent_to f c.enter-value.new.words) c.enter-value.new.at (fresh2 (scope s) x) (some (entered s x s.ty s.ents s.log)) (c.in-ok-fresh.ensures (decls_of f) s st) (c.enter-value.ensures s st)
+    only_left (decls_of f) (lent_to f c.enter_value.new.words) c.enter_value.new.at (fresh2 (scope s) x) (some (entered s x s.ty s.ents s.log)) (c.in_ok-fresh.ensures (decls_of f) s st) (c.enter_value.ensures s st)

@@ -6,4 +6,4 @@ pub returns-then-next-min : goal.returns-then-next-min
 returns-then-next-min c =
     let t = c.args.tables in
     let h : c.args.next < min c.args.end t.done.fields.end = omega arith in
-    (fields_next t c.args.next c.args.end c.field-type.result h c.field-type.ensures.is, omega arith)
+    (fields_next t c.args.next c.args.end c.field_type.result h c.field_type.ensures.is, omega arith)

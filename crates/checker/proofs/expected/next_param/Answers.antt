@@ -6,4 +6,4 @@ pub returns-then-next-min : goal.returns-then-next-min
 returns-then-next-min c =
     let t = c.args.tables in
     let h : c.args.next < min c.args.end t.done.params.end = omega arith in
-    (params_next t c.args.next c.args.end c.param-type.result h c.param-type.ensures.is, omega arith)
+    (params_next t c.args.next c.args.end c.param_type.result h c.param_type.ensures.is, omega arith)

@@ -11,9 +11,9 @@ loop-i-preserved c =
     let es = c.args.ways.middle ∷ c.args.ways.top ∷ [] in
     let from = c.args.ways.from in
     let same = c.loop-i.invariant.0.long in (
-      joining_on c.args.words.now.log.now c.args.words.now.gaps.now es from c.args.count ws c.put-gone.new.words.log.now c.loop-i.i (bit_of c.gone-behind-gone.result) c.loop-i.invariant.0 c.put-gone.ensures.log (omega arith) c.loop-i.auto.i
-          (bit_back c.gone-behind-gone.result ∙ c.gone-behind-gone.ensures ∙ ap₂ (λ k g. behind (ways ws from es) k (find (lives ws g c.args.count from) k)) c.entry-place-place.ensures (ap (λ w. w.gaps) (c.loop-i.invariant.1 [] []))),
-      (λ text code. c.put-gone.ensures.kept text code ∙ ap (λ w. with_log w c.put-gone.new.words.log.now) (c.loop-i.invariant.1 text code)),
+      joining_on c.args.words.now.log.now c.args.words.now.gaps.now es from c.args.count ws c.put_gone.new.words.log.now c.loop-i.i (bit_of c.gone_behind-gone.result) c.loop-i.invariant.0 c.put_gone.ensures.log (omega arith) c.loop-i.auto.i
+          (bit_back c.gone_behind-gone.result ∙ c.gone_behind-gone.ensures ∙ ap₂ (λ k g. behind (ways ws from es) k (find (lives ws g c.args.count from) k)) c.entry_place-place.ensures (ap (λ w. w.gaps) (c.loop-i.invariant.1 [] []))),
+      (λ text code. c.put_gone.ensures.kept text code ∙ ap (λ w. with_log w c.put_gone.new.words.log.now) (c.loop-i.invariant.1 text code)),
     )
 
 pub returns : goal.returns
@@ -24,8 +24,8 @@ returns c =
       kept = c.loop-i.invariant.1;
     }
 
-pub gone-behind-gone-requires : goal.gone-behind-gone-requires
-gone-behind-gone-requires c =
+pub gone_behind-gone-requires : goal.gone_behind-gone-requires
+gone_behind-gone-requires c =
     let log = c.loop-i.invariant.0.long in
     let gaps : length c.loop-i.words.gaps.now ≡ length c.args.words.now.gaps.now = ap (λ w. length w.gaps) (c.loop-i.invariant.1 [] []) in
     (omega arith, (omega arith, (omega arith, omega arith)))

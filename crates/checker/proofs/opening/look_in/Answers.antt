@@ -12,8 +12,8 @@ use Rattle.checker.specs.Stands.{Stands, Left}
 use Rattle.checker.proofs.Outcomes.{only_left}
 use Rattle.checker.proofs.opening.look_in.Goals as goal
 
-pub enter-value-requires : goal.enter-value-requires
-enter-value-requires c = c.set-lent-value.ensures.enters c.args.function.tables.text.now c.args.function.tables.code.now c.requires
+pub enter_value-requires : goal.enter_value-requires
+enter_value-requires c = c.set_lent_value.ensures.enters c.args.function.tables.text.now c.args.function.tables.code.now c.requires
 
 pub returns : goal.returns
 returns c = λ s f t n l q st.
@@ -21,11 +21,11 @@ returns c = λ s f t n l q st.
     let text = g.tables.text.now in
     let code = g.tables.code.now in
     let x = spelled g.tables c.args.name in
-    let u = type_in g.tables c.in-ok-inner.inner in
-    let w = lent_to g c.enter-value.new.words in
-    let h = c.enter-value.new.at in
-    let k = c.in-ok-inner.ensures text in
+    let u = type_in g.tables c.in_ok-inner.inner in
+    let w = lent_to g c.enter_value.new.words in
+    let h = c.enter_value.new.at in
+    let k = c.in_ok-inner.ensures text in
     subst (λ (o : Option Ty). Left (decls_of g) w h (if_some o (λ u. only_if (readable2 [] (scope s) f.slot.name) (some (entered s x (ref u) (via (length f.older) ∷ []) s.log))))) (sym k.0 ∙ ap boxed_in q)
-    (only_left (decls_of g) w h (readable2 [] (scope s) f.slot.name) (some (entered s x (ref u) (via (length f.older) ∷ []) s.log)) (ap (readable2 [] (scope s)) n ∙ c.in-ok-readable-by-names.ensures (decls_of g) s st)
+    (only_left (decls_of g) w h (readable2 [] (scope s) f.slot.name) (some (entered s x (ref u) (via (length f.older) ∷ []) s.log)) (ap (readable2 [] (scope s)) n ∙ c.in_ok-readable_by_names.ensures (decls_of g) s st)
     (subst (λ (i : ℕ). Stands (decls_of g) w h (entered s x (ref u) (via i ∷ []) s.log)) (sym l)
-    (c.enter-value.ensures _ (c.set-lent-value.ensures.stands (decls_of g) text code s (ref u) (c.behind.ensures.is text code k.1) st))))
+    (c.enter_value.ensures _ (c.set_lent_value.ensures.stands (decls_of g) text code s (ref u) (c.behind.ensures.is text code k.1) st))))

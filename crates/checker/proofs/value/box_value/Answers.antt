@@ -10,5 +10,5 @@ use Rattle.checker.proofs.value.box_value.Goals as goal
 
 pub returns : goal.returns
 returns c = λ d p s st.
-    let own : owned (type_of c.args.source.now.text.now c.args.source.now.code.now c.args.at.now.ty) ≡ true = sym (c.is_owned.ensures c.args.source.now.text.now) ∙ c.if-not-is-owned.false in
-    only_left d (lent c.args.source.now c.args.words.now) c.set-value.new.at (owned s.ty) (some (val s (box s.ty) [])) (sym (ap owned st.ty) ∙ own) (c.set-value.ensures.stands d (lent c.args.source.now c.args.words.now) s (box s.ty) (c.boxed-ty.ensures.is c.args.source.now.text.now c.args.source.now.code.now own ∙ ap box st.ty) st)
+    let own : owned (type_of c.args.source.now.text.now c.args.source.now.code.now c.args.at.now.ty) ≡ true = sym (c.is_owned.ensures c.args.source.now.text.now) ∙ c.if-not-is_owned.false in
+    only_left d (lent c.args.source.now c.args.words.now) c.set_value.new.at (owned s.ty) (some (val s (box s.ty) [])) (sym (ap owned st.ty) ∙ own) (c.set_value.ensures.stands d (lent c.args.source.now c.args.words.now) s (box s.ty) (c.boxed-ty.ensures.is c.args.source.now.text.now c.args.source.now.code.now own ∙ ap box st.ty) st)

@@ -8,4 +8,4 @@ use Rattle.checker.proofs.Outcomes.{only_left}
 use Rattle.checker.proofs.value.use_number.Goals as goal
 
 pub returns : goal.returns
-returns c = λ d p s st. only_left d (lent c.args.source.now c.args.words.now) c.set-value.new.at (same_ty s.ty int) (some (val s int [])) (sym (ap (λ t. same_ty t int) st.ty) ∙ sym (c.is_int.ensures c.args.source.now.text.now) ∙ c.if-not-is-int.false) (c.set-value.ensures.stands d (lent c.args.source.now c.args.words.now) s int (c.int.ensures.is _ _) st)
+returns c = λ d p s st. only_left d (lent c.args.source.now c.args.words.now) c.set_value.new.at (same_ty s.ty int) (some (val s int [])) (sym (ap (λ t. same_ty t int) st.ty) ∙ sym (c.is_int.ensures c.args.source.now.text.now) ∙ c.if-not-is_int.false) (c.set_value.ensures.stands d (lent c.args.source.now c.args.words.now) s int (c.int.ensures.is _ _) st)

@@ -18,9 +18,9 @@ returns c = record {
         log = st.log;
         gaps = st.gaps;
         ty = e;
-        ents = ap (slice text c.store-loan.new.words h.base) z ∙ ap (λ x. ent_of text x ∷ []) c.store-loan.ensures.this;
+        ents = ap (slice text c.store_loan.new.words h.base) z ∙ ap (λ x. ent_of text x ∷ []) c.store_loan.ensures.this;
         based = omega arith;
-        sized = (let e : length c.store-loan.new.words ≡ length w.args.now = omega arith in resized (length text) (lent_in text code w) (with_args (lent_in text code w) c.store-loan.new.words) refl refl e refl refl refl refl refl st.sized);
-        frames = framed_args d text code w.args.now c.store-loan.new.words w.seen.now w.ends.now w.frames.now h.base (c.store-loan.ensures.below text) h.frames (tops h) s.frames (omega arith) st.frames;
+        sized = (let e : length c.store_loan.new.words ≡ length w.args.now = omega arith in resized (length text) (lent_in text code w) (with_args (lent_in text code w) c.store_loan.new.words) refl refl e refl refl refl refl refl st.sized);
+        frames = framed_args d text code w.args.now c.store_loan.new.words w.seen.now w.ends.now w.frames.now h.base (c.store_loan.ensures.below text) h.frames (tops h) s.frames (omega arith) st.frames;
       };
 }

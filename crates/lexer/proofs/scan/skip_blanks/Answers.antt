@@ -1,7 +1,7 @@
 use Rattle.std.proofs.Common.{◌+◌, false, sym, ◌∙◌, arith}
 use Rattle.lexer.proofs.Cut.{over_blank, over_hash, over_line, over_comment, none_left, turned}
 use Rattle.lexer.proofs.scan.skip_blanks.Goals as goal
-use Rattle.lexer.proofs.scan.skip_blanks.Goals.{then-comment+then-b-eq10, then-comment+else-b-eq10, else-comment+then-b-eq35, else-comment+else-b-eq35+else-not-is-blank}
+use Rattle.lexer.proofs.scan.skip_blanks.Goals.{then-comment+then-b-eq10, then-comment+else-b-eq10, else-comment+then-b-eq35, else-comment+else-b-eq35+else-not-is_blank}
 
 pub loop-i-preserved : goal.loop-i-preserved
 loop-i-preserved c =
@@ -13,7 +13,7 @@ loop-i-preserved c =
         | then-comment+then-b-eq10 w ↦ turned text i (i + 1) inv w.if-comment.true (over_line text i inside w.if-b-eq10.true) w.comment-is
         | then-comment+else-b-eq10 w ↦ turned text i (i + 1) inv w.if-comment.true (over_comment text i inside w.if-b-eq10.false) (w.comment-is ∙ w.if-comment.true)
         | else-comment+then-b-eq35 w ↦ turned text i (i + 1) inv w.if-comment.false (over_hash text i inside w.if-b-eq35.true) w.comment-is
-        | else-comment+else-b-eq35+else-not-is-blank w ↦ turned text i (i + 1) inv w.if-comment.false (over_blank text i inside (sym w.if-not-is-blank.ensures)) (w.comment-is ∙ w.if-comment.false)
+        | else-comment+else-b-eq35+else-not-is_blank w ↦ turned text i (i + 1) inv w.if-comment.false (over_blank text i inside (sym w.if-not-is_blank.ensures)) (w.comment-is ∙ w.if-comment.false)
       ],
       omega arith,
       omega arith,

@@ -8,15 +8,15 @@ loop-end-preserved c =
     let text = c.args.text.now in
     let i = c.args.start in
     let j = c.loop-end.end in
-    (omega arith, omega arith, run_grows text i j c.loop-end.invariant.0 c.loop-end-test.true (sym c.if-in-word.ensures) c.loop-end.invariant.2)
+    (omega arith, omega arith, run_grows text i j c.loop-end.invariant.0 c.loop-end-test.true (sym c.if-in_word.ensures) c.loop-end.invariant.2)
 
-pub returns-else-in-word : goal.returns-else-in-word
-returns-else-in-word c =
+pub returns-else-in_word : goal.returns-else-in_word
+returns-else-in_word c =
     let text = c.args.text.now in
     let j = c.loop-end.end in
     record {
       within = (c.loop-end.invariant.0, c.loop-end.invariant.1);
-      run = run_done text c.args.start j (run_off text j c.loop-end-test.true (sym c.if-in-word.ensures)) c.loop-end.invariant.2;
+      run = run_done text c.args.start j (run_off text j c.loop-end-test.true (sym c.if-in_word.ensures)) c.loop-end.invariant.2;
     }
 
 pub returns-after-loop-end : goal.returns-after-loop-end

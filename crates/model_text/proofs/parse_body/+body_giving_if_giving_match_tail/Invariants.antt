@@ -4,11 +4,11 @@ use Rattle.model_text.proofs.parse_body.+body_giving_if_giving_match_tail.Given 
 abbrev pub decreases-body : goal.decreases-body
 decreases-body l = 3 * l.depth + 0
 
-abbrev pub decreases-giving-if : goal.decreases-giving-if
-decreases-giving-if l = 3 * l.depth + 1
+abbrev pub decreases-giving_if : goal.decreases-giving_if
+decreases-giving_if l = 3 * l.depth + 1
 
-abbrev pub decreases-giving-match : goal.decreases-giving-match
-decreases-giving-match l = 3 * l.depth + 1
+abbrev pub decreases-giving_match : goal.decreases-giving_match
+decreases-giving_match l = 3 * l.depth + 1
 
 abbrev pub decreases-tail : goal.decreases-tail
 decreases-tail l = 3 * l.depth + 2

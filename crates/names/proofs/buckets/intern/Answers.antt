@@ -9,7 +9,7 @@ pub returns-in-Taken : goal.returns-in-Taken
 returns-in-Taken c =
     let text = c.args.text.now in
     let table = c.args.table.now in
-    let stop = subst (Stopped text table record { 0 = c.min-place.result }) c.in-Taken.is c.in-ok-other.ensures in
+    let stop = subst (Stopped text table record { 0 = c.min-place.result }) c.in-Taken.is c.in_ok-other.ensures in
     record {
       sound = c.requires;
       grows = λ p has. has;
@@ -23,7 +23,7 @@ returns-in-Free c =
     let table = c.args.table.now in
     let q = c.min-place.result in
     let i = c.in-Free.i in
-    let room = subst (Stopped text table record { 0 = q }) c.in-Free.is c.in-ok-other.ensures in
+    let room = subst (Stopped text table record { 0 = q }) c.in-Free.is c.in_ok-other.ensures in
     record {
       sound = sound_new text table i q room.within room.free room c.requires;
       grows = has_still text table i q room.within room.free;

@@ -6,7 +6,7 @@ use Rattle.names.proofs.hash.hash_of.Goals as goal
 
 pub loop-b-preserved : goal.loop-b-preserved
 loop-b-preserved c =
-    let ws = c.name-bytes-b-items.result.now in
+    let ws = c.name_bytes-b-items.result.now in
     let i = c.loop-b.b-index in
     let h = c.loop-b.h in
     c.loop-b.invariant
@@ -15,5 +15,5 @@ loop-b-preserved c =
 
 pub returns : goal.returns
 returns c =
-    let ws = c.name-bytes-b-items.result.now in
-    sym (ap (hash 14695981039346656037) (sym c.name-bytes-b-items.ensures) ∙ c.loop-b.invariant ∙ ap (hash c.loop-b.h) (drop_all c.loop-b.b-index ws c.loop-b-test.false))
+    let ws = c.name_bytes-b-items.result.now in
+    sym (ap (hash 14695981039346656037) (sym c.name_bytes-b-items.ensures) ∙ c.loop-b.invariant ∙ ap (hash c.loop-b.h) (drop_all c.loop-b.b-index ws c.loop-b-test.false))

@@ -4,15 +4,15 @@ use Rattle.code.specs.Words.{with_slot}
 use Rattle.names.proofs.Used.{sound_none, used_none}
 use Rattle.names.proofs.Going.{Going, begun, moved, passed_over, renamed_one, code_same, filled_same, canonical_now}
 use Rattle.names.proofs.pass.canonical.Goals as goal
-use Rattle.names.proofs.pass.canonical.Goals.{in-Some+in-Some-rename, in-default}
+use Rattle.names.proofs.pass.canonical.Goals.{in-Some+in-Some-rename, in_default}
 
 pub loop-k-init : goal.loop-k-init
 loop-k-init c =
     let table = c.clear.new.table in
     begun c.args.text.now c.args.words.now table (sound_none c.args.text.now table c.clear.ensures) (used_none table c.clear.ensures)
 
-pub returns-in-default-rename : goal.returns-in-default-rename
-returns-in-default-rename c =
+pub returns-in_default-rename : goal.returns-in_default-rename
+returns-in_default-rename c =
     let text = c.args.text.now in
     let words = c.args.words.now in
     let after = c.loop-k.words in
@@ -22,7 +22,7 @@ returns-in-default-rename c =
       code = same;
       filled = filled_same text words after c.args.n same;
       kept = λ j h. g.behind j (omega arith);
-      enough = λ h. absurd (omega (arith, h, g.few, c.in-default-rename.ensures.gives));
+      enough = λ h. absurd (omega (arith, h, g.few, c.in_default-rename.ensures.gives));
       names = λ t. absurd (true≢false (sym t));
     }
 
@@ -40,9 +40,9 @@ loop-k-preserved c =
           let next = w.rename.new.table in
           moved text words (with_slot after k (slot_of j)) c.match-decode.words next c.match-decode.table (k + 1) (w.words_is ∙ w.encode.ensures.value) w.table-is
           (renamed_one text words after table next k w.in-Some.instr j c.loop-k.invariant (omega arith) (sym w.in-Some.ensures) r.gives.0 r.gives.1 r.sound r.counts r.grows)
-      | in-default w ↦
+      | in_default w ↦
           moved text words after c.match-decode.words table c.match-decode.table (k + 1) w.words_is w.table-is
-          (passed_over text words after table k c.loop-k.invariant (sym w.in-default.ensures))
+          (passed_over text words after table k c.loop-k.invariant (sym w.in_default.ensures))
     ]
 
 pub returns : goal.returns

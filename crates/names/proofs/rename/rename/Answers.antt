@@ -3,9 +3,9 @@ use Rattle.names.proofs.Used.{used_all}
 use Rattle.names.proofs.Renames.{Operands, given}
 use Rattle.names.proofs.rename.rename.Goals as goal
 
-pub returns-in-default : goal.returns-in-default
-returns-in-default c =
-    let e = c.in-default.ensures in
+pub returns-in_default : goal.returns-in_default
+returns-in_default c =
+    let e = c.in_default.ensures in
     record {
       sound = e.sound;
       grows = e.grows;
@@ -13,10 +13,10 @@ returns-in-default c =
       gives = omega (arith, used_all c.args.table.now e.gives);
     }
 
-pub returns-in-default-operand : goal.returns-in-default-operand
-returns-in-default-operand c =
+pub returns-in_default-operand : goal.returns-in_default-operand
+returns-in_default-operand c =
     let d = c.in-Some.ensures in
-    let e = c.in-default-operand.ensures in
+    let e = c.in_default-operand.ensures in
     record {
       sound = e.sound;
       grows = λ p has. e.grows p (d.grows p has);
@@ -35,10 +35,10 @@ returns c =
       sound = e.sound;
       grows = λ p has. e.grows p (d.grows p has);
       counts = omega (arith, d.counts, e.counts);
-      gives = given text c.operand-2.new.table c.args.instr c.is-first-named.result c.is-second-named.result a b _ c.slot-old.result c.slot-old.ensures
+      gives = given text c.operand-2.new.table c.args.instr c.is_first_named.result c.is_second_named.result a b _ c.slot-old.result c.slot-old.ensures
           (record {
-            first_is = c.is-first-named.ensures;
-            second_is = c.is-second-named.ensures;
+            first_is = c.is_first_named.ensures;
+            second_is = c.is_second_named.ensures;
             first = (d.gives.0, d.gives.1, λ t. e.grows a (d.gives.2 t));
             second = e.gives;
           })

@@ -8,8 +8,8 @@ returns c =
     let words = c.args.words.now in
     let n = c.args.at.made in
     record {
-      stack = c.push-all-height.ensures.top;
-      code = λ text. same_code text words _ n (λ j low. c.push-all-height.ensures.kept j (omega arith))
+      stack = c.push_all-height.ensures.top;
+      code = λ text. same_code text words _ n (λ j low. c.push_all-height.ensures.kept j (omega arith))
           ∙ sym (append-nil (code_in text words n));
-      filled = same_filled words _ n (λ j low. c.push-all-height.ensures.kept j (omega arith));
+      filled = same_filled words _ n (λ j low. c.push_all-height.ensures.kept j (omega arith));
     }

@@ -19,14 +19,14 @@ loop-at-init c = (
   c.new-cursor.ensures.text,
 )
 
-pub overflow-add-base : goal.overflow-add-base
-overflow-add-base c =
+pub overflow_add-base : goal.overflow_add-base
+overflow_add-base c =
     let b = bounded c.args.text.now c.loop-at.words c.args.base c.loop-at.at
     (tokens c.loop-at.cursor) c.loop-at.invariant.0 in
     omega arith
 
-pub held-at-symbol-requires : goal.held-at-symbol-requires
-held-at-symbol-requires c =
+pub held_at-symbol-requires : goal.held_at-symbol-requires
+held_at-symbol-requires c =
     let b = bounded c.args.text.now c.loop-at.words c.args.base c.loop-at.at
     (tokens c.loop-at.cursor) c.loop-at.invariant.0 in
     omega arith
@@ -52,7 +52,7 @@ standing {text} e ws s = record {
 below : Progress → Progress
 below at = record { height = at.height - 1; made = at.made }
 
-went : (c : goal.After-slice-known-in-Ok·1) →
+went : (c : goal.After-slice-known-in-Ok-1) →
     Going c.args.text.now c.perform-at.new.words c.args.base c.perform-at.result
     (tokens c.step.new.c)
     × (left_over c.args.text.now c.perform-at.new.words c.args.base c.perform-at.result
@@ -63,12 +63,12 @@ unfolding below
 went c =
     turned c.args.text.now c.loop-at.words c.args.base c.loop-at.at
     (tokens c.loop-at.cursor) c.loop-at.invariant.0
-    c.held-at-symbol.result (below c.loop-at.at) c.loop-at-test.true refl refl
-    c.held-at-symbol.ensures
+    c.held_at-symbol.result (below c.loop-at.at) c.loop-at-test.true refl refl
+    c.held_at-symbol.ensures
     c.in-Ok.action (tokens c.step.new.c) c.perform-at.new.words c.perform-at.result
     (on_text c.args.text.now (text_of c.loop-at.cursor)
     (λ t. action_of t c.in-Ok.action (tokens c.step.new.c))
-    (λ t. step (symbol_of t c.held-at-symbol.result) (tokens c.loop-at.cursor)) c.loop-at.invariant.1
+    (λ t. step (symbol_of t c.held_at-symbol.result) (tokens c.loop-at.cursor)) c.loop-at.invariant.1
     c.in-Ok.ensures.does)
     c.perform-at.ensures
 
@@ -84,10 +84,10 @@ returns-in-Err c = record {
   none_read =
       failed c.args.text.now c.loop-at.words c.args.base c.loop-at.at
       (tokens c.loop-at.cursor) c.loop-at.invariant.0
-      c.held-at-symbol.result (below c.loop-at.at) c.loop-at-test.true refl refl
-      c.held-at-symbol.ensures
+      c.held_at-symbol.result (below c.loop-at.at) c.loop-at-test.true refl refl
+      c.held_at-symbol.ensures
       (on_text c.args.text.now (text_of c.loop-at.cursor) (λ t. fail)
-      (λ t. step (symbol_of t c.held-at-symbol.result) (tokens c.loop-at.cursor)) c.loop-at.invariant.1
+      (λ t. step (symbol_of t c.held_at-symbol.result) (tokens c.loop-at.cursor)) c.loop-at.invariant.1
       c.in-Err.ensures.does);
   stands =
       standing c.misread.result (tokens c.step.new.c)

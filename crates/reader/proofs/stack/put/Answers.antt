@@ -3,4 +3,4 @@ use Rattle.code.specs.Words.{with_slot}
 use Rattle.reader.proofs.stack.put.Goals as goal
 
 pub returns : goal.returns
-returns c = ap (with_slot c.args.words.now c.args.k) c.slot-of-slot.ensures
+returns c = ap (with_slot c.args.words.now c.args.k) c.slot_of-slot.ensures

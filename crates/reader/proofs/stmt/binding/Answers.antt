@@ -23,7 +23,7 @@ behind_name text now x ts left behind r e n h =
 
 pub returns : goal.returns
 returns c = record {
-  does = behind_name _ _ c.in-ok-x.x (tokens c.args.c.now) _ (tokens c.named.new.c) c.named.result
-      c.lower.ensures.text c.in-ok-x.ensures.got c.named.ensures.does;
+  does = behind_name _ _ c.in_ok-x.x (tokens c.args.c.now) _ (tokens c.named.new.c) c.named.result
+      c.lower.ensures.text c.in_ok-x.ensures.got c.named.ensures.does;
   text = c.named.ensures.text ∙ c.lower.ensures.text;
 }

@@ -7,11 +7,11 @@ use Rattle.scope.proofs.names.seek.Goals as goal
 pub loop-h-init : goal.loop-h-init
 loop-h-init c = (omega arith, λ code es top. (top, refl))
 
-pub returns-then-same-name : goal.returns-then-same-name
-returns-then-same-name c = λ code es top. seek_hit c.args.text.now code c.args.names.now es c.loop-h.h c.args.height (c.loop-h.invariant.1 code es top).0 (spelling c.args.text.now c.args.name) _ c.loop-h-test.true (omega arith) (sym (c.same-name.ensures ∙ ap (λ v. same (spelling c.args.text.now v.name) (spelling c.args.text.now c.args.name)) c.load.ensures) ∙ c.if-same-name.true) (c.loop-h.invariant.1 code es top).1
+pub returns-then-same_name : goal.returns-then-same_name
+returns-then-same_name c = λ code es top. seek_hit c.args.text.now code c.args.names.now es c.loop-h.h c.args.height (c.loop-h.invariant.1 code es top).0 (spelling c.args.text.now c.args.name) _ c.loop-h-test.true (omega arith) (sym (c.same_name.ensures ∙ ap (λ v. same (spelling c.args.text.now v.name) (spelling c.args.text.now c.args.name)) c.load.ensures) ∙ c.if-same_name.true) (c.loop-h.invariant.1 code es top).1
 
 pub loop-h-preserved : goal.loop-h-preserved
-loop-h-preserved c = (omega arith, λ code es top. seek_miss c.args.text.now code c.args.names.now es c.loop-h.h (c.loop-h.invariant.1 code es top).0 (spelling c.args.text.now c.args.name) _ c.loop-h-test.true (sym (c.same-name.ensures ∙ ap (λ v. same (spelling c.args.text.now v.name) (spelling c.args.text.now c.args.name)) c.load.ensures) ∙ c.if-same-name.false) (c.loop-h.invariant.1 code es top).1)
+loop-h-preserved c = (omega arith, λ code es top. seek_miss c.args.text.now code c.args.names.now es c.loop-h.h (c.loop-h.invariant.1 code es top).0 (spelling c.args.text.now c.args.name) _ c.loop-h-test.true (sym (c.same_name.ensures ∙ ap (λ v. same (spelling c.args.text.now v.name) (spelling c.args.text.now c.args.name)) c.load.ensures) ∙ c.if-same_name.false) (c.loop-h.invariant.1 code es top).1)
 
 pub returns : goal.returns
 returns c = λ code es top. seek_none c.args.text.now code c.args.names.now es c.loop-h.h (c.loop-h.invariant.1 code es top).0 (spelling c.args.text.now c.args.name) _ (omega arith) (c.loop-h.invariant.1 code es top).1

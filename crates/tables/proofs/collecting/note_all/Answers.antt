@@ -4,9 +4,9 @@ use Rattle.tables.proofs.collecting.note_all.Goals as goal
 
 pub loop-i-preserved : goal.loop-i-preserved
 loop-i-preserved c =
-    let a = c.note-slot-done.ensures.lengths in
+    let a = c.note_slot-done.ensures.lengths in
     let b = c.loop-i.invariant.1 in (
-      noted_slot c.args.code.now c.args.size c.loop-i.i _ _ _ _ c.requires.code c.loop-i-test.true c.note-slot-done.ensures.noted c.loop-i.invariant.0,
+      noted_slot c.args.code.now c.args.size c.loop-i.i _ _ _ _ c.requires.code c.loop-i-test.true c.note_slot-done.ensures.noted c.loop-i.invariant.0,
       record { datas = a.datas ∙ b.datas; ctors = a.ctors ∙ b.ctors; fields = a.fields ∙ b.fields; fns = a.fns ∙ b.fns; params = a.params ∙ b.params },
     )
 

@@ -13,11 +13,11 @@ use Rattle.tables.proofs.measure.ctors_size.Goals as goal
 pub loop-c-init : goal.loop-c-init
 loop-c-init c = (c.requires.1, top_all (sizes_in c.args.tables c.args.sizes.now) (the_ctor c.args.tables) c.args.ctors.first c.args.ctors.end)
 
-pub returns-in-default : goal.returns-in-default
-returns-in-default c =
+pub returns-in_default : goal.returns-in_default
+returns-in_default c =
     let s = sizes_in c.args.tables c.args.sizes.now in
     let e = sym (ap (λ (r : Declared). if_some (fields_by s (all_in (the_field c.args.tables) r.parts)) cap) c.load.ensures) in
-    top_none s (the_ctor c.args.tables) c.loop-c.c _ c.loop-c.most _ c.loop-c-test.true (e ∙ c.in-default.ensures) c.loop-c.invariant.1
+    top_none s (the_ctor c.args.tables) c.loop-c.c _ c.loop-c.most _ c.loop-c-test.true (e ∙ c.in_default.ensures) c.loop-c.invariant.1
 
 pub loop-c-preserved : goal.loop-c-preserved
 loop-c-preserved c =

@@ -3,8 +3,8 @@ use Rattle.tables.specs.Known.{sizes_in, the_field}
 use Rattle.tables.proofs.SizeSums.{sum_more, sum_none, sum_big}
 use Rattle.tables.proofs.measure.fields_size.Goals as goal
 
-pub returns-in-default : goal.returns-in-default
-returns-in-default c = sum_none (sizes_in c.args.tables c.args.sizes.now) (the_field c.args.tables) c.loop-j.j _ c.loop-j.sum _ c.loop-j-test.true c.in-default.ensures c.loop-j.invariant.2
+pub returns-in_default : goal.returns-in_default
+returns-in_default c = sum_none (sizes_in c.args.tables c.args.sizes.now) (the_field c.args.tables) c.loop-j.j _ c.loop-j.sum _ c.loop-j-test.true c.in_default.ensures c.loop-j.invariant.2
 
 pub returns-then-size-sum : goal.returns-then-size-sum
 returns-then-size-sum c =

@@ -27,7 +27,7 @@ pub loop-i-preserved : goal.loop-i-preserved
 loop-i-preserved g c =
     let f : ℕ → Lexeme = λ k. spelling c.args.text.now (g.R.Row.title (g.R.Row.kept c.args.words.now k)) in
     let e = c.name.ensures ∙ ap g.R.Row.title c.load.ensures in
-    let h = ap (λ (m : Name). first_in (is_named c.args.text.now g.R.Row.title (g.R.Row.kept c.args.words.now) m) (span (c.loop-i.i + 1) c.args.rows.end)) (sym e) ∙ c.in-default.ensures in
+    let h = ap (λ (m : Name). first_in (is_named c.args.text.now g.R.Row.title (g.R.Row.kept c.args.words.now) m) (span (c.loop-i.i + 1) c.args.rows.end)) (sym e) ∙ c.in_default.ensures in
     (c.loop-i.invariant.0, once_on f c.loop-i.i c.args.rows.end _ c.loop-i-test.true h c.loop-i.invariant.1)
 
 pub returns : goal.returns

@@ -3,7 +3,7 @@ use Rattle.tables.proofs.Settle.{fixed}
 use Rattle.tables.proofs.sizes.settle_all.Goals as goal
 
 pub loop-preserved : goal.loop-preserved
-loop-preserved c = c.settle-each.ensures.sound c.loop.invariant
+loop-preserved c = c.settle_each.ensures.sound c.loop.invariant
 
 pub returns : goal.returns
-returns c = fixed c.args.tables _ (c.settle-each.ensures.sound c.loop.invariant) (c.settle-each.ensures.stuck c.loop-test.false)
+returns c = fixed c.args.tables _ (c.settle_each.ensures.sound c.loop.invariant) (c.settle_each.ensures.stuck c.loop-test.false)

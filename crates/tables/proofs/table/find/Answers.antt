@@ -11,8 +11,8 @@ load-requires g c =
     let m = mul-le-mul_right g.R.Row.width h in
     omega arith
 
-pub returns-then-same-name : goal.returns-then-same-name
-returns-then-same-name g c = first_hit _ c.loop-i.i c.args.rows.end _ c.loop-i-test.true (let h = c.name.ensures in let k = c.load.ensures in cc) c.loop-i.invariant
+pub returns-then-same_name : goal.returns-then-same_name
+returns-then-same_name g c = first_hit _ c.loop-i.i c.args.rows.end _ c.loop-i-test.true (let h = c.name.ensures in let k = c.load.ensures in cc) c.loop-i.invariant
 
 pub loop-i-preserved : goal.loop-i-preserved
 loop-i-preserved g c = first_miss _ c.loop-i.i c.args.rows.end _ c.loop-i-test.true (let h = c.name.ensures in let k = c.load.ensures in cc) c.loop-i.invariant

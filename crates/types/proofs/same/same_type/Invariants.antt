@@ -3,8 +3,8 @@ use Rattle.language.specs.Checks.{same_ty}
 use Rattle.types.specs.Types.{type_of, layers}
 use Rattle.types.proofs.same.same_type.Given as goal
 
-abbrev pub invariant-loop-inner-x : goal.invariant-loop-inner-x
-invariant-loop-inner-x l = same_ty (type_of l.text l.code l.x) (type_of l.text l.code l.y) ≡ same_ty (type_of l.text l.code l.initial.x) (type_of l.text l.code l.initial.y)
+abbrev pub invariant-loop-inner_x : goal.invariant-loop-inner_x
+invariant-loop-inner_x l = same_ty (type_of l.text l.code l.x) (type_of l.text l.code l.y) ≡ same_ty (type_of l.text l.code l.initial.x) (type_of l.text l.code l.initial.y)
 
-abbrev pub decreases-loop-inner-x : goal.decreases-loop-inner-x
-decreases-loop-inner-x l = layers (type_of l.text l.code l.x)
+abbrev pub decreases-loop-inner_x : goal.decreases-loop-inner_x
+decreases-loop-inner_x l = layers (type_of l.text l.code l.x)

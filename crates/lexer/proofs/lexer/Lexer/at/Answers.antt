@@ -4,16 +4,16 @@ use Rattle.lexer.proofs.Cut.{none_left}
 use Rattle.lexer.proofs.Tell.{told_some}
 use Rattle.lexer.proofs.lexer.Lexer.at.Goals as goal
 
-pub invariant-of-result : goal.invariant-of-result
-invariant-of-result c =
+pub invariant_of-result : goal.invariant_of-result
+invariant_of-result c =
     let text = c.args.text.now in
-    let start = c.skip-blanks-start.result in
+    let start = c.skip_blanks-start.result in
     ((omega arith, omega arith), (none_left text start c.if-start-text.true false, (le-leb (length text) start c.if-start-text.true, tt)))
 
-pub invariant-of-result-2 : goal.invariant-of-result-2
-invariant-of-result-2 c =
+pub invariant_of-result-2 : goal.invariant_of-result-2
+invariant_of-result-2 c =
     let text = c.args.text.now in
-    let start = c.skip-blanks-start.result in
-    let end = c.lexeme-end-end.result in
-    let cut = c.lexeme-end-end.ensures in
-    ((omega arith, cut.within.1), (cut.rest, (told_some text start end c.classify.result (c.skip-blanks-start.ensures.stops c.if-start-text.false) c.classify.ensures, tt)))
+    let start = c.skip_blanks-start.result in
+    let end = c.lexeme_end-end.result in
+    let cut = c.lexeme_end-end.ensures in
+    ((omega arith, cut.within.1), (cut.rest, (told_some text start end c.classify.result (c.skip_blanks-start.ensures.stops c.if-start-text.false) c.classify.ensures, tt)))

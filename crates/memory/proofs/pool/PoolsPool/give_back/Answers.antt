@@ -2,17 +2,17 @@ use Rattle.std.proofs.Common.{◌+◌, ◌-◌, ◌<◌, ◌≤◌, length, get_
 use Rattle.memory.proofs.Places.{used_under, gave}
 use Rattle.memory.proofs.pool.PoolsPool.give_back.Goals as goal
 
-in_range : (c : goal.After-self·1) → c.args.a.0 < length c.args.self.now.words.now
+in_range : (c : goal.After-self-1) → c.args.a.0 < length c.args.self.now.words.now
 in_range c = let u = used_under _ _ _ _ _ _ _ c.requires.used.1.1.1 in let a = u.0 in let b = u.1 in omega arith
 
-pub offset-bounds-self-a : goal.offset-bounds-self-a
-offset-bounds-self-a c = let h = in_range c in search rules
+pub offset_bounds-self-a : goal.offset_bounds-self-a
+offset_bounds-self-a c = let h = in_range c in search rules
 
 pub bounds-self-a : goal.bounds-self-a
 bounds-self-a c = in_range c
 
-pub overflow-add-self : goal.overflow-add-self
-overflow-add-self c = let h = in_range c in search rules
+pub overflow_add-self : goal.overflow_add-self
+overflow_add-self c = let h = in_range c in search rules
 
 pub returns : goal.returns
 returns c = record { gives = λ one two free P. gave _ _ _ _ _ one two free c.requires.size P; other = λ i ne. get_or-set_other _ _ i _ 0 ne; same = (simp length-set, simp length-set) }

@@ -7,8 +7,8 @@ use Rattle.memory.proofs.pool.PoolsPool.take.Goals as goal
 in_range : (c : goal.Then-head-ne0) → get_or c.args.self.now.heads.now c.args.k.0 0 - 1 < length c.args.self.now.words.now
 in_range c = first_in _ _ _ _ _ _ c.requires.some.1.1 c.requires.size.1 c.if-head-ne0.true
 
-pub offset-bounds-self-a : goal.offset-bounds-self-a
-offset-bounds-self-a c = let h = in_range c in search rules
+pub offset_bounds-self-a : goal.offset_bounds-self-a
+offset_bounds-self-a c = let h = in_range c in search rules
 
 pub bounds-self-a : goal.bounds-self-a
 bounds-self-a c = in_range c

@@ -14,4 +14,4 @@ at_end text None ws r n e = turned false r e ∙ sym (ap none_left n)
 at_end text (Some t) ws r n e = turned true r e ∙ sym (ap none_left n.0)
 
 pub returns : goal.returns
-returns c = at_end _ _ _ _ c.token.ensures c.is-none.ensures
+returns c = at_end _ _ _ _ c.token.ensures c.is_none.ensures

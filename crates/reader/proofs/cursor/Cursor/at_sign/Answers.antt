@@ -3,4 +3,4 @@ use Rattle.lexer.proofs.Asks.{asks_sign}
 use Rattle.reader.proofs.cursor.Cursor.at_sign.Goals as goal
 
 pub returns : goal.returns
-returns c = c.is-sign.ensures ∙ sym (asks_sign _ _ _ c.token.ensures _)
+returns c = c.is_sign.ensures ∙ sym (asks_sign _ _ _ c.token.ensures _)

@@ -15,7 +15,7 @@ pub returns-in-Err : goal.returns-in-Err
 returns-in-Err c = all_no (decl_at c.args.self c.args.sizes.now) (λ (k : ℕ). k) c.loop-d.d _ _ c.loop-d-test.true c.in-Err.ensures c.loop-d.invariant.1
 
 pub loop-d-preserved : goal.loop-d-preserved
-loop-d-preserved c = (c.loop-d.invariant.0, all_on (decl_at c.args.self c.args.sizes.now) (λ (k : ℕ). k) c.loop-d.d _ _ c.loop-d-test.true c.in-default.ensures c.loop-d.invariant.1)
+loop-d-preserved c = (c.loop-d.invariant.0, all_on (decl_at c.args.self c.args.sizes.now) (λ (k : ℕ). k) c.loop-d.d _ _ c.loop-d-test.true c.in_default.ensures c.loop-d.invariant.1)
 
 pub returns : goal.returns
 returns c = all_end (decl_at c.args.self c.args.sizes.now) (λ (k : ℕ). k) c.loop-d.d _ _ c.loop-d-test.false c.loop-d.invariant.1

@@ -8,11 +8,11 @@ use Rattle.tables.proofs.tables.Tables.check_rest.Goals as goal
 pub returns-in-Err : goal.returns-in-Err
 returns-in-Err c =
     let t = c.args.self in
-    let d : each_of (ok_decl (datas_in t) (sigs_in t)) (datas_in t) ≡ false = decls_are t c.args.sizes.now c.in-default.ensures c.requires.sizes ∙ c.in-Err.ensures in
+    let d : each_of (ok_decl (datas_in t) (sigs_in t)) (datas_in t) ≡ false = decls_are t c.args.sizes.now c.in_default.ensures c.requires.sizes ∙ c.in-Err.ensures in
     search rules
 
 pub returns : goal.returns
 returns c =
     let t = c.args.self in
-    let d = decls_are t c.args.sizes.now c.in-default.ensures c.requires.sizes in
+    let d = decls_are t c.args.sizes.now c.in_default.ensures c.requires.sizes in
     search rules

@@ -15,7 +15,7 @@ pub returns-in-Some : goal.returns-in-Some
 returns-in-Some c = (home_hit (the_data c.args.self) c.loop-d.d _ _ _ _ c.loop-d-test.true c.in-Some.ensures.0 c.loop-d.invariant.1, c.loop-d-test.true, c.in-Some.ensures.1)
 
 pub loop-d-preserved : goal.loop-d-preserved
-loop-d-preserved c = (c.loop-d.invariant.0, home_miss (the_data c.args.self) c.loop-d.d _ _ _ c.loop-d-test.true c.in-default.ensures c.loop-d.invariant.1)
+loop-d-preserved c = (c.loop-d.invariant.0, home_miss (the_data c.args.self) c.loop-d.d _ _ _ c.loop-d-test.true c.in_default.ensures c.loop-d.invariant.1)
 
 pub returns : goal.returns
 returns c = home_end (the_data c.args.self) c.loop-d.d _ _ _ c.loop-d-test.false c.loop-d.invariant.1

@@ -18,8 +18,8 @@ returns-then-count-ne1 c =
     let e = ap (λ (r : Declared). is_last w (types_of_pars (all_in f r.parts)) (written t.text.now t.code.now r.at)) c.load-row.ensures in
     sym (sym e ∙ last_not f w _ c.load-row.result.parts.first (c.load-row.result.parts.end - c.load-row.result.parts.first) (λ q. let n = c.count.ensures in let k = c.if-count-ne1.true in absurd (omega arith)))
 
-pub returns-then-not-is-lent : goal.returns-then-not-is-lent
-returns-then-not-is-lent c =
+pub returns-then-not-is_lent : goal.returns-then-not-is_lent
+returns-then-not-is_lent c =
     let t = c.args.self in
     let f = param_at (source_of t) (words_in t) in
     let w = spelled t c.args.of in
@@ -27,7 +27,7 @@ returns-then-not-is-lent c =
     let e = ap (λ (r : Declared). is_last w (types_of_pars (all_in f r.parts)) (written t.text.now t.code.now r.at)) c.load-row.ensures in
     let n : c.load-row.result.parts.end - c.load-row.result.parts.first ≡ 1 = (let a = c.count.ensures in let b = c.if-count-ne1.false in omega arith) in
     let p = ap (λ (q : Parameter). same_ty (written t.text.now t.code.now q.at) (mut (dat w))) c.load.ensures in
-    sym (sym e ∙ last_one f w r c.load-row.result.parts.first _ n ∙ ap (λ (b : Bool). b && same_ty r int) (sym p ∙ sym c.if-not-is-lent.ensures))
+    sym (sym e ∙ last_one f w r c.load-row.result.parts.first _ n ∙ ap (λ (b : Bool). b && same_ty r int) (sym p ∙ sym c.if-not-is_lent.ensures))
 
 pub returns : goal.returns
 returns c =
@@ -38,4 +38,4 @@ returns c =
     let e = ap (λ (r : Declared). is_last w (types_of_pars (all_in f r.parts)) (written t.text.now t.code.now r.at)) c.load-row.ensures in
     let n : c.load-row.result.parts.end - c.load-row.result.parts.first ≡ 1 = (let a = c.count.ensures in let b = c.if-count-ne1.false in omega arith) in
     let p = ap (λ (q : Parameter). same_ty (written t.text.now t.code.now q.at) (mut (dat w))) c.load.ensures in
-    c.is_int.ensures ∙ sym (sym e ∙ last_one f w r c.load-row.result.parts.first _ n ∙ ap (λ (b : Bool). b && same_ty r int) (sym p ∙ sym c.if-not-is-lent.ensures))
+    c.is_int.ensures ∙ sym (sym e ∙ last_one f w r c.load-row.result.parts.first _ n ∙ ap (λ (b : Bool). b && same_ty r int) (sym p ∙ sym c.if-not-is_lent.ensures))

@@ -12,8 +12,8 @@ use Rattle.tables.proofs.tables.Tables.main_ok.Goals as goal
 test : Option Sig → Bool
 test o = from_option o false (λ s. eqb (length s.params) 0 && same_ty s.ret int)
 
-pub is-main-requires : goal.is-main-requires
-is-main-requires c = first_under _ _ _ c.in-Some.ensures
+pub is_main-requires : goal.is_main-requires
+is_main-requires c = first_under _ _ _ c.in-Some.ensures
 
 pub returns-in-Some : goal.returns-in-Some
 unfolding test
