@@ -24,7 +24,7 @@ held_step text args frames zero top f h e = absurd (omega arith)
 held_step text args frames (suc n) top f h e = let z : suc n - 1 ≡ n = omega arith in sym (ap (λ m. held_from text args f top (λ t. held_in text args frames m t)) z ∙ ap (λ f. held_from text args f top (λ t. held_in text args frames n t)) (e ∙ ap (frame_at frames) z))
 
 pub held_is : (d : Decls) (text code args seen ends frames : List ℕ) (n : ℕ) (t : Tops) (ks : List Mark) → Framed d text code args seen ends frames n t ks → held_in text args frames n t.args ≡ held2 ks
-held_is d text code args seen ends frames zero t ks (no_frame e) = refl
+held_is d text code args seen ends frames zero t ks no_frame = refl
 held_is d text code args seen ends frames (suc n) t ks (one_frame {k = k} {ks = js} i fs) = go (frame_at frames n) k i (held_is d text code args seen ends frames n (below (frame_at frames n) t) js fs)
   where
     go : (f : Frame) (k : Mark) → Is d text code args seen ends t f k js → held_in text args frames n (below f t).args ≡ held2 js → held_from text args f t.args (λ u. held_in text args frames n u) ≡ held2 (k ∷ js)
@@ -33,14 +33,14 @@ held_is d text code args seen ends frames (suc n) t ks (one_frame {k = k} {ks = 
     go f k (is_else p) ih = refl
     go f k (is_test p q) ih = refl
     go f k (is_loop p q r s) ih = refl
-    go f k (is_match p q r s u v w x y) ih = refl
+    go f k (is_match p q r s u v w) ih = refl
 
 -- a log in two parts
 pub length_part : (ws : List ℕ) (from n : ℕ) → length (part ws from n) ≡ n
 length_part ws from zero = refl
 length_part ws from (suc n) = ap suc (length_part ws from n)
 
-pub length-++ : {A : Type 0} (a b : List A) → length (a ++ b) ≡ length a + length b
+length-++ : {A : Type 0} (a b : List A) → length (a ++ b) ≡ length a + length b
 length-++ [] b = omega arith
 length-++ (x ∷ a) b = let h = length-++ a b in omega arith
 

@@ -1,5 +1,5 @@
 -- A name that is entered: entries that are copied, and a slot more.
-use Rattle.std.proofs.Common.{◌≡◌, ℕ, zero, suc, ◌+◌, ◌-◌, ◌*◌, ◌<◌, ◌≤◌, min, Bool, List, [], ◌∷◌, ◌++◌, length, sym, refl, ap, ◌∙◌, subst, ap₂, arith}
+use Rattle.std.proofs.Common.{◌≡◌, ℕ, zero, suc, ◌+◌, ◌-◌, ◌*◌, ◌<◌, ◌≤◌, min, Bool, List, [], ◌∷◌, ◌++◌, sym, refl, ap, ◌∙◌, subst, ap₂, arith}
 use Rattle.language.specs.Syntax.{int}
 use Rattle.lexer.specs.declared.name.Name.{Name}
 use Rattle.lexer.specs.Spelling.{spelling}
@@ -7,15 +7,12 @@ use Rattle.types.specs.declared.ty.ValueType.{ValueType}
 use Rattle.types.specs.Types.{type_of}
 use Rattle.scope.specs.declared.loans.Entry.{Entry}
 use Rattle.scope.specs.Loans.{Ent, slice, ent_of, loan_at}
-use Rattle.scope.specs.Slots.{Slot, slot_of, stack, variable_at, slots_of}
+use Rattle.scope.specs.Slots.{Slot, slot_of, variable_at, slots_of}
 use Rattle.scope.specs.declared.names.Variable.{Variable}
 use Rattle.scope.proofs.SlotWords.{slots_step}
 use Rattle.checker.specs.declared.state.State.{State}
-use Rattle.checker.specs.CallerBits.{from_ents, bits, bits_in}
-use Rattle.checker.specs.Marks.{State2, rest, scope}
+use Rattle.checker.specs.Marks.{State2, rest}
 use Rattle.checker.specs.Stands.{Decls, Lent, Stands, with_loans, with_names}
-use Rattle.checker.proofs.Decoded.{length-++}
-use Rattle.checker.proofs.Framing.{resized}
 
 slice_snoc : (text ws : List ℕ) (from n : ℕ) → slice text ws from (suc n) ≡ slice text ws from n ++ (ent_of text (loan_at ws (from + n)) ∷ [])
 slice_snoc text ws from zero = let e : from ≡ from + 0 = omega arith in ap (λ i. ent_of text (loan_at ws i) ∷ []) e
@@ -54,15 +51,6 @@ module _ (text code ns ns' es es' vs : List ℕ) (h top base n : ℕ) (v : Varia
       ∙ ap₂ (λ k b. slot_of (spelling text v.name) (type_of text code v.ty) (slice text es' top k) ∷ slots_of text code ns' es' h b) z m
       ∙ ap₂ (λ l us. slot_of (spelling text v.name) (type_of text code v.ty) l ∷ us) copied (names ∙ slots_slices text code ns es' es h top top (omega arith) low)
 
-pub length_slice : (text ws : List ℕ) (from n : ℕ) → length (slice text ws from n) ≡ n
-length_slice text ws from zero = refl
-length_slice text ws from (suc n) = ap suc (length_slice text ws (suc from) n)
-
--- the bits of names that stay
-pub bits_same : (ns ms : List ℕ) (h b : ℕ) → h ≤ b → ((k : ℕ) → k < b → variable_at ns k ≡ variable_at ms k) → bits_in ns h ≡ bits_in ms h
-bits_same ns ms zero b p s = refl
-bits_same ns ms (suc h) b p s = ap₂ (λ v l. v.lent ∷ l) (s h (omega arith)) (bits_same ns ms h b (omega arith) s)
-
 abbrev one_more : State → ValueType → State
 one_more h i = record { names = h.names + 1; loans = h.loans + (h.args - h.base); args = h.base; base = h.base; log = h.log; gaps = h.gaps; frames = h.frames; seen = h.seen; ends = h.ends; ty = i }
 
@@ -72,20 +60,13 @@ pub name_stands : (d : Decls) (E : Lent) (h : State) (s : State2) → Stands d E
     → slots_of E.text E.code ns ls h.names h.loans ≡ slots_of E.text E.code E.names ls h.names h.loans
     → ((from m : ℕ) → from + m ≤ h.loans → slice E.text ls from m ≡ slice E.text E.loans from m)
     → slice E.text ls h.loans (h.args - h.base) ≡ slice E.text E.args h.base (h.args - h.base)
-    → ((k : ℕ) → k < h.names → variable_at ns k ≡ variable_at E.names k)
-    → b ≡ from_ents d.refs (scope s) (bits d.refs (scope s)) s.ents
-    → length ls ≡ length E.loans → length ns ≡ length E.names
     → (W : Lent) → W ≡ with_names (with_loans E ls) ns
     → Stands d W (record { names = h.names + 1; loans = h.loans + (h.args - h.base); args = h.base; base = h.base; log = h.log; gaps = h.gaps; frames = h.frames; seen = h.seen; ends = h.ends; ty = i }) (rest (slot_of (spelling E.text x) s.ty s.ents ∷ s.names) s.log s.frames)
-name_stands d E h s st ls ns x b i t this names low copied older bit ll ln W e = subst (λ (V : Lent). Stands d V (one_more h i) (rest (slot_of (spelling E.text x) s.ty s.ents ∷ s.names) s.log s.frames)) (sym e) (record {
+name_stands d E h s st ls ns x b i t this names low copied W e = subst (λ (V : Lent). Stands d V (one_more h i) (rest (slot_of (spelling E.text x) s.ty s.ents ∷ s.names) s.log s.frames)) (sym e) (record {
   names = slots_enter E.text E.code E.names ns E.loans ls E.args h.names h.loans h.base (h.args - h.base) (record { name = x; ty = h.ty; loans = h.loans; lent = b }) this refl names low copied ∙ ap₂ (λ v vs. v ∷ vs) (ap₂ (slot_of (spelling E.text x)) st.ty st.ents) st.names;
-  loaned = (let z = sym (length_slice E.text E.args h.base (h.args - h.base)) ∙ ap length st.ents in let y = length-++ s.ents (stack (scope s)) in let x = st.loaned in omega arith);
-  bits = (let z : h.names + 1 ≡ suc h.names = omega arith in ap (bits_in ns) z ∙ ap₂ (λ v l. v ∷ l) (ap (λ v. v.lent) this ∙ bit) (bits_same ns E.names h.names h.names (omega arith) older ∙ st.bits));
   log = st.log;
   gaps = st.gaps;
   ty = t;
   ents = (let z : h.base - h.base ≡ 0 = omega arith in ap (slice E.text E.args h.base) z);
-  based = omega arith;
-  sized = resized (length E.text) E (with_names (with_loans E ls) ns) ln ll refl refl refl refl refl refl st.sized;
   frames = st.frames;
 })

@@ -5,7 +5,7 @@ use Rattle.language.specs.Base.{if_some}
 use Rattle.language.specs.Syntax.{Ty, int, dat, Expr, num, var, op, ctor, boxed, call, share, lend, load, get_e, Exprs, nil_e, cons_e}
 use Rattle.language.specs.Checks.{same_ty, owned, home_of, fn_named, Loan, there, Typed, loadable, holds, types_of_pars, expr, args}
 use Rattle.code.specs.Instr.{Instr, i_int, i_op, i_arg, i_box, code_e, code_es}
-use Rattle.tables.specs.Heads.{sig_named}
+use Rattle.checker.specs.Heads.{sig_named}
 use Rattle.checker.specs.Frames.{Frame, f_call, state, at_rest, held_of, with_value}
 use Rattle.checker.specs.Exec.{exec_all}
 use Rattle.checker.proofs.Options.{if_if, only_then, if_same, if_none, only_same, only_when, if_on}

@@ -1,5 +1,5 @@
 -- How steps end, from how their parts do.
-use Rattle.std.proofs.Common.{◌≡◌, ℕ, Bool, true, false, not, ◌&&◌, T, List, is_err, Ok, Err, Result, sym, refl, ap, ◌∙◌, subst, ap₂}
+use Rattle.std.proofs.Common.{◌≡◌, ℕ, Bool, true, false, not, ◌&&◌, List, Ok, Err, Result, sym, refl, ap, ◌∙◌, subst, ap₂}
 use mathlib.Core.Option.{Option, some, none}
 use Rattle.language.specs.Base.{if_some, only_if, Lexeme}
 use Rattle.scope.specs.Slots.{Found, At}
@@ -26,14 +26,6 @@ module _ (d : Decls) (w : Lent) (h : State) where
   -- a test that holds
   pub only_left : (b : Bool) (o : Option State2) → b ≡ true → Left d w h o → Left d w h (only_if b o)
   only_left b o e l = subst (λ b. Left d w h (only_if b o)) (sym e) l
-
-  pub steps_only : (b : Bool) (o : Option State2) (r : Result Unit Rule) → b ≡ true → Steps d w h o r → Steps d w h (only_if b o) r
-  steps_only b o r e k = subst (λ b. Steps d w h (only_if b o) r) (sym e) k
-
-  -- what a part refused
-  pub steps_err : (o : Option State2) (r : Result Unit Rule) → is_err r ≡ true → o ≡ none → Steps d w h o r
-  steps_err o (Ok u) e n = absurd (subst T (sym e) tt)
-  steps_err o (Err x) e n = n
 
   -- a name that's there
   pub on_there : (text code ns : List ℕ) (n : ℕ) (x : Lexeme) (o : Option Found) (p : Place) (g : Found → Option State2) (r : Result Unit Rule) → There text code ns n x o (Ok p) → ((f : Found) → At text code ns n x p.0 f → Steps d w h (g f) r) → Steps d w h (if_some o g) r

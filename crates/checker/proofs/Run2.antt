@@ -5,7 +5,7 @@ use Rattle.language.specs.Base.{choose, if_some, present, each_of, Lexeme, same,
 use Rattle.language.specs.Syntax.{Param, Data}
 use Rattle.language.specs.Checks.{pars_env, names_of_pars, types_of_pars, well_made}
 use Rattle.code.specs.Instr.{Instr}
-use Rattle.tables.specs.Heads.{Sig}
+use Rattle.checker.specs.Heads.{Sig}
 use Rattle.checker.specs.Frames.{Ctx, at_rest}
 use Rattle.checker.specs.Exec.{exec, is_end, exec_all}
 use Rattle.checker.proofs.Options.{Each}

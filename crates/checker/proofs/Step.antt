@@ -2,7 +2,7 @@
 use Rattle.std.proofs.Common.{suc, ◌&&◌, length, refl, ap}
 use Rattle.language.specs.Syntax.{int}
 use Rattle.language.specs.Checks.{same_ty, owned, home_of, from_caller}
-use Rattle.tables.specs.Heads.{sig_named}
+use Rattle.checker.specs.Heads.{sig_named}
 use Rattle.checker.specs.Frames.{Ctx}
 use Rattle.checker.specs.Exec.{exec}
 use Rattle.checker.proofs.LoanStack.{expand}

@@ -4,7 +4,7 @@ use Rattle.std.proofs.Math.Option.{Option, some, none}
 use Rattle.language.specs.Base.{choose, if_some, Lexeme, same}
 use Rattle.language.specs.Syntax.{Ty, int, Access, Data, Param, Fn, Prog}
 use Rattle.language.specs.Checks.{Loan, Env, Typed}
-use Rattle.tables.specs.Heads.{Sig}
+use Rattle.checker.specs.Heads.{Sig}
 
 -- the function under check: the declarations, the parameters that are references, the type of what's given
 pub record Ctx : Type 0 where

@@ -1,3 +1,4 @@
+pub mod Heads
 pub mod FrameWords
 pub mod Frames
 pub mod Exec
@@ -5,17 +6,6 @@ pub mod CallerBits
 pub mod Marks
 pub mod Machine
 pub mod Stands
-pub mod Context
-pub mod Calls
 pub mod Held
 pub mod Outcome
-pub mod Unboxed
-pub mod Leaving
-pub mod Newest
-pub mod Gaps
-pub mod Joining
-pub mod Rounds
 pub mod Promise
-pub mod Space
-pub mod Depth
-pub mod Fits

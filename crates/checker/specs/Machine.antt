@@ -5,7 +5,7 @@ use Rattle.language.specs.Base.{choose, if_some, only_if, present, Lexeme}
 use Rattle.language.specs.Syntax.{Ty, int, dat, box, ref, mut, Access, take, view, edit, Data, Ctor, Param}
 use Rattle.language.specs.Checks.{same_ty, owned, ctor_named, home_of, data_named, data_of, loan, readable, is_free, loadable, types_of_pars, ref_of, covers, boxed_in}
 use Rattle.code.specs.Instr.{Instr, i_num, i_var, i_int, i_op, i_make, i_call, i_arg, i_apply, i_box, i_share, i_lend, i_load, i_get, i_bind, i_assign, i_store, i_put, i_if, i_else, i_end_if, i_while, i_do, i_end_while, i_match, i_arm, i_name, i_body, i_end_arm, i_end_match, i_open, i_inside, i_give, i_end_fn, i_ty_int, i_ty_data, i_ty_box, i_ty_ref, i_ty_mut, i_field, i_ctor, i_data, i_param, i_fn}
-use Rattle.tables.specs.Heads.{sig_named}
+use Rattle.checker.specs.Heads.{sig_named}
 use Rattle.checker.specs.Exec.{is_end}
 use Rattle.checker.specs.Frames.{Ctx, data_only, on_one, on_none}
 use Rattle.scope.specs.Loans.{Ent, leaf, via, leaves}

@@ -4,7 +4,7 @@ use Rattle.language.specs.Base.{present, no_twice}
 use Rattle.language.specs.Syntax.{Fn, Prog}
 use Rattle.language.specs.Checks.{is_body, ref_pars, pars_env, names_of_pars}
 use Rattle.code.specs.Instr.{Instr, i_end_fn, code_body}
-use Rattle.tables.specs.Heads.{Sig, sig_of}
+use Rattle.checker.specs.Heads.{Sig, sig_of}
 use Rattle.checker.specs.Frames.{Ctx}
 use Rattle.checker.specs.Machine.{exec2_all, start}
 

@@ -10,7 +10,7 @@ use Rattle.types.specs.Types.{type_of, base_of}
 use Rattle.scope.specs.declared.loans.Entry.{Entry}
 use Rattle.scope.specs.Log.{Log, part, segments}
 use Rattle.scope.specs.Loans.{Ent, slice, ent_of}
-use Rattle.scope.specs.Slots.{Slot, stack, slots_of}
+use Rattle.scope.specs.Slots.{Slot, slots_of}
 use Rattle.checker.specs.declared.state.Source.{Source}
 use Rattle.checker.specs.declared.state.Words.{Words}
 use Rattle.checker.specs.declared.state.State.{State}
@@ -20,7 +20,7 @@ use Rattle.checker.specs.declared.frames.Match.{Match}
 use Rattle.checker.specs.declared.frames.Frame.{Frame}
 use Rattle.checker.specs.declared.frames.Frame.TheVariants.{Call as ACall, Then, Else, Test, Loop, Match as AMatch}
 use Rattle.checker.specs.FrameWords.{frame_at}
-use Rattle.checker.specs.CallerBits.{bits, bits_in}
+use Rattle.checker.specs.Frames.{Ctx}
 use Rattle.checker.specs.Marks.{Matching, Mark, k_call, k_then, k_else, k_test, k_loop, k_match, State2, names_of, scope}
 
 -- the words as lists
@@ -50,37 +50,11 @@ with_loans w ls = record { text = w.text; code = w.code; names = w.names; loans 
 abbrev pub with_names : Lent → List ℕ → Lent
 with_names w ns = record { text = w.text; code = w.code; names = ns; loans = w.loans; args = w.args; log = w.log; gaps = w.gaps; frames = w.frames; seen = w.seen; ends = w.ends }
 
--- with other entries of arguments
-abbrev pub with_args : Lent → List ℕ → Lent
-with_args w es = record { text = w.text; code = w.code; names = w.names; loans = w.loans; args = es; log = w.log; gaps = w.gaps; frames = w.frames; seen = w.seen; ends = w.ends }
-
--- with other a log
-abbrev pub with_log : Lent → List ℕ → Lent
-with_log w l = record { text = w.text; code = w.code; names = w.names; loans = w.loans; args = w.args; log = l; gaps = w.gaps; frames = w.frames; seen = w.seen; ends = w.ends }
-
--- with other gaps
-abbrev pub with_gaps : Lent → List ℕ → Lent
-with_gaps w g = record { text = w.text; code = w.code; names = w.names; loans = w.loans; args = w.args; log = w.log; gaps = g; frames = w.frames; seen = w.seen; ends = w.ends }
-
--- with other frames
-abbrev pub with_frames : Lent → List ℕ → Lent
-with_frames w fs = record { text = w.text; code = w.code; names = w.names; loans = w.loans; args = w.args; log = w.log; gaps = w.gaps; frames = fs; seen = w.seen; ends = w.ends }
-
--- with other constructors seen
-abbrev pub with_seen : Lent → List ℕ → Lent
-with_seen w cs = record { text = w.text; code = w.code; names = w.names; loans = w.loans; args = w.args; log = w.log; gaps = w.gaps; frames = w.frames; seen = cs; ends = w.ends }
-
--- with other ends of arms
-abbrev pub with_ends : Lent → List ℕ → Lent
-with_ends w e = record { text = w.text; code = w.code; names = w.names; loans = w.loans; args = w.args; log = w.log; gaps = w.gaps; frames = w.frames; seen = w.seen; ends = e }
-
--- what is declared, by its number: the types of a range of fields, and of one of parameters; data; and the parameters of the function
--- under check that are references
+-- what is declared, by its number: the types of a range of fields, and of one of parameters; data
 pub record Decls : Type 0 where
   pub fields : ℕ → ℕ → List Ty
   pub params : ℕ → ℕ → List Ty
   pub data_at : ℕ → Data
-  pub refs : List Lexeme
 
 -- the whole log, with the ways that have ended
 abbrev pub whole : List Mark → Log
@@ -110,9 +84,6 @@ pub record Tops : Type 0 where
   pub args : ℕ
   pub seen : ℕ
   pub ends : ℕ
-
-abbrev pub no_tops : Tops
-no_tops = record { args = 0; seen = 0; ends = 0 }
 
 abbrev pub below : Frame → Tops → Tops
 below (ACall c) t = record { args = min t.args c.base; seen = t.seen; ends = t.ends }
@@ -145,36 +116,21 @@ pub data Is (d : Decls) (text code args seen ends : List ℕ) (t : Tops) : Frame
   is_else : {h : ℕ} {vs : List Slot} {l a : Log} {ks : List Mark} → h ≡ length (vs ++ names_of ks) → Is d text code args seen ends t (Else h) (k_else vs l a) ks
   is_test : {h m : ℕ} {vs : List Slot} {l : Log} {ks : List Mark} → h ≡ length (vs ++ names_of ks) → m ≡ length (l ++ whole ks) → Is d text code args seen ends t (Test h m) (k_test vs l) ks
   is_loop : {h m i n : ℕ} {vs ws : List Slot} {l a : Log} {ks : List Mark} → h ≡ length (vs ++ names_of ks) → m ≡ length (l ++ whole ks) → i ≡ length (ws ++ (vs ++ names_of ks)) → n ≡ length (a ++ (l ++ whole ks)) → Is d text code args seen ends t (Loop h m i n) (k_loop vs l ws a) ks
-  is_match : {m : Match} {vs : List Slot} {l : Log} {arms : List Log} {q : Matching} {ks : List Mark} → m.names ≡ length (vs ++ names_of ks) → access_of m.access ≡ q.way → part_is text m.part ≡ q.part → d.data_at m.«data» ≡ q.data1 → seen_in text seen m.seen (t.seen - m.seen) ≡ q.seen → ends_in ends m.ends (t.ends - m.ends) ≡ arm_ends arms (l ++ whole ks) → d.fields m.next m.end ≡ q.left → m.seen ≤ t.seen → m.ends ≤ t.ends → Is d text code args seen ends t (AMatch m) (k_match vs l arms q) ks
+  is_match : {m : Match} {vs : List Slot} {l : Log} {arms : List Log} {q : Matching} {ks : List Mark} → m.names ≡ length (vs ++ names_of ks) → access_of m.access ≡ q.way → part_is text m.part ≡ q.part → d.data_at m.«data» ≡ q.data1 → seen_in text seen m.seen (t.seen - m.seen) ≡ q.seen → ends_in ends m.ends (t.ends - m.ends) ≡ arm_ends arms (l ++ whole ks) → d.fields m.next m.end ≡ q.left → Is d text code args seen ends t (AMatch m) (k_match vs l arms q) ks
 
 pub data Framed (d : Decls) (text code args seen ends frames : List ℕ) : ℕ → Tops → List Mark → Type 0 where
-  no_frame : {t : Tops} → t ≡ no_tops → Framed d text code args seen ends frames zero t []
+  no_frame : {t : Tops} → Framed d text code args seen ends frames zero t []
   one_frame : {n : ℕ} {t : Tops} {k : Mark} {ks : List Mark} → Is d text code args seen ends t (frame_at frames n) k ks → Framed d text code args seen ends frames n (below (frame_at frames n) t) ks → Framed d text code args seen ends frames (suc n) t (k ∷ ks)
 
 abbrev pub tops : State → Tops
 tops h = record { args = h.base; seen = h.seen; ends = h.ends }
 
--- words enough for a function of a text of n bytes
-pub record Sized (n : ℕ) (w : Lent) : Type 0 where
-  pub names : 7 * n + 7 ≤ length w.names
-  pub loans : 2 * n + 2 ≤ length w.loans
-  pub args : 2 * n + 2 ≤ length w.args
-  pub log : 4 * n + 4 ≤ length w.log
-  pub gaps : 2 * n + 2 ≤ length w.gaps
-  pub frames : 10 * n + 10 ≤ length w.frames
-  pub seen : n + 1 ≤ length w.seen
-  pub ends : n + 1 ≤ length w.ends
-
 pub record Stands (d : Decls) (w : Lent) (h : State) (s : State2) : Type 0 where
   pub names : slots_of w.text w.code w.names w.loans h.names h.loans ≡ scope s
-  pub loaned : h.loans ≡ length (stack (scope s))
-  pub bits : bits_in w.names h.names ≡ bits d.refs (scope s)
   pub log : part w.log 0 h.log ≡ s.log ++ whole s.frames
   pub gaps : Gapped w.gaps h.gaps s.frames
   pub ty : type_of w.text w.code h.ty ≡ s.ty
   pub ents : slice w.text w.args h.base (h.args - h.base) ≡ s.ents
-  pub based : h.base ≤ h.args
-  pub sized : Sized (length w.text) w
   pub frames : Framed d w.text w.code w.args w.seen w.ends w.frames h.frames (tops h) s.frames
 
 -- room for what one instruction may add
@@ -189,14 +145,6 @@ pub record Room (w : Lent) (h : State) : Type 0 where
   pub seen : h.seen + 1 ≤ length w.seen
   pub ends : h.ends + 1 ≤ length w.ends
   pub boxes : h.ty.boxes + 1 < 2 * 9223372036854775808
-
--- room for the value as a name
-pub record Enters (w : Lent) (h : State) : Type 0 where
-  pub names : 7 * h.names + 7 ≤ length w.names
-  pub loans : 2 * (h.loans + (h.args - h.base)) ≤ length w.loans
-  pub args : 2 * h.args ≤ length w.args
-  pub based : h.base ≤ h.args
-  pub log : 2 * h.log + 2 ≤ length w.log
 
 -- how a step ended
 abbrev pub Left : Decls → Lent → State → Option State2 → Type 0

@@ -29,7 +29,6 @@ pub fn copy_loans(words: &mut Words<'_>, base: usize, to: usize, count: usize)
     requires { (2 * (base + count) ≤ length words.old.args.now) × (2 * (to + count) ≤ length words.old.loans.now) }
     ensures copied { (text : List ℕ) → slice text words.new.loans.now to count ≡ slice text words.old.args.now base count }
     ensures below { (text : List ℕ) (from n : ℕ) → from + n ≤ to → slice text words.new.loans.now from n ≡ slice text words.old.loans.now from n }
-    ensures long { length words.new.loans.now ≡ length words.old.loans.now }
     ensures kept { (text code : List ℕ) → lent_in text code words.new ≡ with_loans (lent_in text code words.old) words.new.loans.now }
 {
     for i in 0..count {

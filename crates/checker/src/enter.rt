@@ -2,18 +2,13 @@ ghost use Rattle.std.specs.Prelude.{◌≡◌, ℕ, ◌+◌, ◌-◌, ◌*◌, �
 ghost use Rattle.lexer.specs.Spelling.{spelling};
 ghost use Rattle.code.specs.Instr.{i_bind};
 ghost use Rattle.scope.specs.Slots.{slot_of};
-ghost use Rattle.checker.specs.CallerBits.{from_ents, bits};
 ghost use Rattle.checker.specs.Frames.{Ctx};
 ghost use Rattle.checker.specs.Marks.{State2, rest, scope as Scope};
 ghost use Rattle.checker.specs.Machine.{exec2, entered, fresh2};
-ghost use Rattle.tables.specs.Tables.{spelled};
-ghost use Rattle.checker.specs.Context.{decls_of, lent_to};
-ghost use Rattle.checker.specs.Stands.{Decls, lent, lent_in, Stands, Room, Enters, Steps};
+ghost use Rattle.checker.specs.Stands.{Decls, lent, lent_in, Stands, Room, Steps};
 ghost use Rattle.checker.specs.Outcome.{Holds};
 
-use crate::caller::from_caller;
 use crate::copy::copy_loans;
-use crate::function::Function;
 use crate::state::{Rule, Source, State, Words};
 use crate::write::{int, set_gone};
 use lexer::Name;
@@ -34,7 +29,7 @@ pub fn fresh(source: &Source<'_>, words: &Words<'_>, at: &State, name: Name) -> 
 // A name more, which takes the value and its entries. `of_caller`: whether all its loans are of what the caller lent.
 fn add_name(words: &mut Words<'_>, at: &mut State, name: Name, of_caller: bool)
     requires { (7 * at.old.names + 6 < length words.old.names.now) × ((2 * (at.old.loans + (at.old.args - at.old.base)) ≤ length words.old.loans.now) × ((at.old.base ≤ at.old.args) × (2 * at.old.args ≤ length words.old.args.now))) }
-    ensures stands { (d : Decls) (text code : List ℕ) (s : State2) → of_caller ≡ from_ents d.refs (Scope s) (bits d.refs (Scope s)) s.ents → Stands d (lent_in text code words.old) at.old s → Stands d (lent_in text code words.new) at.new (rest (slot_of (spelling text name) s.ty s.ents ∷ s.names) s.log s.frames) }
+    ensures stands { (d : Decls) (text code : List ℕ) (s : State2) → Stands d (lent_in text code words.old) at.old s → Stands d (lent_in text code words.new) at.new (rest (slot_of (spelling text name) s.ty s.ents ∷ s.names) s.log s.frames) }
     ensures log { (at.new.log ≡ at.old.log) × (words.new.log.now ≡ words.old.log.now) }
 {
     let place = Place(at.names);
@@ -56,37 +51,25 @@ fn add_name(words: &mut Words<'_>, at: &mut State, name: Name, of_caller: bool)
 // A new name: an entry of the log says that it's there.
 pub fn enter(words: &mut Words<'_>, at: &mut State, name: Name, of_caller: bool)
     requires { (7 * at.old.names + 6 < length words.old.names.now) × ((2 * (at.old.loans + (at.old.args - at.old.base)) ≤ length words.old.loans.now) × ((at.old.base ≤ at.old.args) × ((2 * at.old.args ≤ length words.old.args.now) × (2 * at.old.log + 1 < length words.old.log.now)))) }
-    ensures { (d : Decls) (text code : List ℕ) (s : State2) → of_caller ≡ from_ents d.refs (Scope s) (bits d.refs (Scope s)) s.ents → Stands d (lent_in text code words.old) at.old s → Stands d (lent_in text code words.new) at.new (entered s (spelling text name) s.ty s.ents s.log) }
+    ensures { (d : Decls) (text code : List ℕ) (s : State2) → Stands d (lent_in text code words.old) at.old s → Stands d (lent_in text code words.new) at.new (entered s (spelling text name) s.ty s.ents s.log) }
 {
     let place = Place(at.names);
     add_name(words, at, name, of_caller);
     set_gone(words, at, place, false);
 }
 
-// A new name that takes the value.
-pub fn enter_value(function: Function<'_>, words: &mut Words<'_>, at: &mut State, name: Name)
-    requires { Enters (lent_to function words.old) at.old }
-    ensures { (s : State2) → Stands (decls_of function.entry) (lent_to function.entry words.old) at.old s → Stands (decls_of function.entry) (lent_to function.entry words.new) at.new (entered s (spelled function.entry.tables name) s.ty s.ents s.log) }
-{
-    let of_caller = from_caller(function, words, at);
-    enter(words, at, name, of_caller);
-}
-
 // let x = e: x is new, and has the value's loans.
 pub fn bind(
-    function: Function<'_>,
+    source: &Source<'_>,
     words: &mut Words<'_>,
     at: &mut State,
     name: Name,
+    of_caller: bool,
 ) -> Result<(), Rule>
-    requires { Room (lent_to function words.old) at.old }
-    ensures { (p : Ctx) (s : State2) → Stands (decls_of function.entry) (lent_to function.entry words.old) at.old s → Steps (decls_of function.entry) (lent_to function.entry words.new) at.new (exec2 p (i_bind (spelled function.entry.tables name)) s) result }
+    requires { Room (lent source.now words.old) at.old }
+    ensures { (d : Decls) (p : Ctx) (s : State2) → Stands d (lent source.now words.old) at.old s → Steps d (lent source.now words.new) at.new (exec2 p (i_bind (spelling source.now.text.now name)) s) result }
 {
-    let source = Source {
-        text: function.tables.text,
-        code: function.tables.code,
-    };
-    fresh(&source, words, at, name)?;
-    enter_value(function, words, at, name);
+    fresh(source, words, at, name)?;
+    enter(words, at, name, of_caller);
     Ok(())
 }

@@ -5,37 +5,18 @@ ghost use Rattle.checker.specs.Promise.{BodyRight};
 
 mod ask;
 mod assigning;
-mod blocks;
-mod caller;
-mod calling;
 mod control;
 mod copy;
 mod enter;
-mod expected;
 mod frames;
-mod function;
-mod gaps;
-mod giving;
-mod joining;
-mod leaving;
-mod looping;
-mod newest;
-mod opening;
 mod state;
 mod value;
 mod write;
 
 pub use assigning::{assign, store};
-pub use blocks::{begin_else, end_if};
-pub use calling::{apply, arg, begin_call, begin_make};
 pub use control::{begin_if, begin_while};
 pub use enter::bind;
 pub use frames::{Call, Frame, Match};
-pub use function::Function;
-pub use gaps::Gap;
-pub use giving::give;
-pub use looping::{begin_do, end_while};
-pub use opening::{inside, open};
 pub use state::{Rule, Source, State, Words};
 pub use value::{box_value, lend, load, number, share, use_name, use_number};
 

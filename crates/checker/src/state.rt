@@ -1,7 +1,6 @@
 use types::ValueType;
 
 // What is checked: a text, and the code that it was read into.
-#[derive(Clone, Copy)]
 pub struct Source<'a> {
     pub text: &'a [u8],
     pub code: &'a [u64],
@@ -39,8 +38,6 @@ pub struct State {
 #[derive(Clone, Copy)]
 pub enum Rule {
     NotThere,
-    NoSuchConstructor,
-    NoSuchFunction,
     NotNew,
     NotInt,
     NotOwned,
@@ -49,8 +46,6 @@ pub enum Rule {
     NotReadable,
     NotFree,
     OtherType,
-    Arity,
     OutOfPlace,
     MovedInLoop,
-    NotOfCaller,
 }

@@ -5,7 +5,7 @@ ghost use Rattle.scope.specs.Log.{gone_at};
 ghost use Rattle.scope.specs.Loans.{ent_of};
 ghost use Rattle.checker.specs.Marks.{State2, st};
 ghost use Rattle.checker.specs.Machine.{val};
-ghost use Rattle.checker.specs.Stands.{Decls, Lent, lent_in, Stands, Room, Enters};
+ghost use Rattle.checker.specs.Stands.{Decls, Lent, lent_in, Stands, Room};
 
 use crate::state::{State, Words};
 use scope::loans::{Entry, store_loan};
@@ -16,7 +16,6 @@ use types::{Base, Outer, ValueType};
 pub fn set_value(at: &mut State, ty: ValueType)
     ensures log { at.new.log ≡ at.old.log }
     ensures stands { (d : Decls) (w : Lent) (s : State2) (t : Ty) → type_of w.text w.code ty ≡ t → Stands d w at.old s → Stands d w at.new (val s t []) }
-    ensures enters { (w : Lent) → Enters w at.old → Enters w at.new }
     ensures room { (w : Lent) → Room w at.old → ty.boxes + 1 < 2 * 9223372036854775808 → Room w at.new }
 {
     at.args = at.base;
@@ -26,8 +25,7 @@ pub fn set_value(at: &mut State, ty: ValueType)
 // A value of a type, that has one entry of loans.
 pub fn set_lent_value(words: &mut Words<'_>, at: &mut State, ty: ValueType, entry: Entry)
     requires { 2 * at.old.base + 1 < length words.old.args.now }
-    ensures enters { (text code : List ℕ) → Room (lent_in text code words.old) at.old → Enters (lent_in text code words.new) at.new }
-    ensures stands { (d : Decls) (text code : List ℕ) (s : State2) (t : Ty) → type_of text code ty ≡ t → Stands d (lent_in text code words.old) at.old s → Stands d (lent_in text code words.new) at.new (val s t (ent_of text entry ∷ [])) }
+    ensures { (d : Decls) (text code : List ℕ) (s : State2) (t : Ty) → type_of text code ty ≡ t → Stands d (lent_in text code words.old) at.old s → Stands d (lent_in text code words.new) at.new (val s t (ent_of text entry ∷ [])) }
 {
     store_loan(words.args, at.base, entry);
     at.args = at.base + 1;
@@ -39,7 +37,6 @@ pub fn set_gone(words: &mut Words<'_>, at: &mut State, place: Place, gone: bool)
     requires { 2 * at.old.log + 1 < length words.old.log.now }
     ensures stands { (d : Decls) (text code : List ℕ) (s : State2) → Stands d (lent_in text code words.old) at.old s → Stands d (lent_in text code words.new) at.new (st s.ty s.ents s.names (gone_at place.0 gone ∷ s.log) s.frames) }
     ensures height { at.new.log ≡ at.old.log + 1 }
-    ensures enters { (text code : List ℕ) → Room (lent_in text code words.old) at.old → Enters (lent_in text code words.new) at.new }
 {
     at.log = push(words.log, at.log, place, gone);
 }

@@ -1,6 +1,5 @@
 -- The instruction set.
 pub mod Instr
-pub mod Growth
 pub mod Means
 pub mod Slots
 pub mod Words

@@ -13,7 +13,7 @@ use Rattle.reader.specs.Symbol.{s_stmts, s_block, s_alts, s_body, s_tail, s_arms
 use Rattle.reader.specs.Symbol.{s_some_fields, s_ctors, s_ctors_on, s_params, s_params_on, s_some_params}
 use Rattle.reader.specs.Symbol.{s_drop, s_items, Action, fail, push, emit, with_name, with_token, step}
 use Rattle.reader.specs.Symbol.{step_stmt}
-use Rattle.code.specs.Growth.{grow}
+use Rattle.reader.specs.Growth.{grow}
 use Rattle.reader.proofs.Ranks.{rank, weight, room, makes, weights, rooms, makes_all, grows, grows_all}
 use Rattle.reader.proofs.ReadSymbol.{spent}
 

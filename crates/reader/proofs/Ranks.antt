@@ -1,7 +1,7 @@
 -- Numbers of each symbol: fuel that its reading needs, measure, stack and output, each above so
 -- much for each token left.
 use Rattle.std.proofs.Common.{ℕ, ◌+◌, List, [], ◌∷◌}
-use Rattle.code.specs.Growth.{grow}
+use Rattle.reader.specs.Growth.{grow}
 use Rattle.reader.specs.Symbol.{Symbol, s_emit, s_token, s_expr, s_compared, s_sum, s_product, s_factor}
 use Rattle.reader.specs.Symbol.{s_more_sum, s_more_product, s_primary, s_args, s_args_on, s_names, s_some_names}
 use Rattle.reader.specs.Symbol.{s_stmts, s_block, s_alts, s_body, s_tail, s_arms, s_type, s_fields, s_fields_on}

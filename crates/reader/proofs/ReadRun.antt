@@ -6,7 +6,7 @@ use Rattle.language.specs.Text.{reads, tokenize, idle}
 use Rattle.code.specs.Instr.{Instr}
 use Rattle.reader.specs.Symbol.{Symbol, s_items, Action, fail, push, emit, step}
 use Rattle.reader.specs.Reader.{Coded}
-use Rattle.code.specs.Growth.{growth}
+use Rattle.reader.specs.Growth.{growth}
 use Rattle.reader.proofs.Ranks.{rank, weight, room, makes, weights, rooms, makes_all, grows, grows_all}
 use Rattle.reader.proofs.ReadSymbol.{spent}
 use Rattle.reader.proofs.Bounds.{Within, within}

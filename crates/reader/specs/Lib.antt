@@ -4,5 +4,6 @@ pub mod Reader
 pub mod Steps
 pub mod Tokens
 pub mod Stack
+pub mod Growth
 pub mod Machine
 pub mod Answer

@@ -14,7 +14,7 @@ use Rattle.reader.specs.declared.machine.Progress.{Progress}
 use Rattle.reader.specs.declared.error.Misread.{Misread}
 use Rattle.reader.specs.Steps.{Stands}
 use Rattle.reader.specs.Stack.{stack_in}
-use Rattle.code.specs.Growth.{growth}
+use Rattle.reader.specs.Growth.{growth}
 use Rattle.reader.specs.Reader.{Coded}
 
 -- what an action puts on the stack, and what it gives out

@@ -19,6 +19,5 @@ pub returns : goal.returns
 returns c = let e : c.loop-i.i ≡ c.args.count = omega arith in record {
   copied = λ text. sym (ap (slice text c.loop-i.words.loans.now c.args.to) e) ∙ c.loop-i.invariant.0 text ∙ ap (slice text c.args.words.now.args.now c.args.base) e;
   below = c.loop-i.invariant.1;
-  long = c.loop-i.invariant.2;
   kept = c.loop-i.invariant.3;
 }

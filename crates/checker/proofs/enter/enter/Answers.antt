@@ -9,4 +9,4 @@ use Rattle.checker.proofs.Beginning.{names_high}
 use Rattle.checker.proofs.enter.enter.Goals as goal
 
 pub returns : goal.returns
-returns c = λ d text code s bit st. subst (λ (k : ℕ). Stands d (lent_in text code c.set_gone.new.words) c.set_gone.new.at (state int [] (slot_of (spelling text c.args.name) s.ty s.ents ∷ s.names) (gone_at k false ∷ s.log) s.frames)) (names_high d (lent_in text code c.args.words.now) c.args.at.now s st) (c.set_gone.ensures.stands d text code _ (c.add_name.ensures.stands d text code s bit st))
+returns c = λ d text code s st. subst (λ (k : ℕ). Stands d (lent_in text code c.set_gone.new.words) c.set_gone.new.at (state int [] (slot_of (spelling text c.args.name) s.ty s.ents ∷ s.names) (gone_at k false ∷ s.log) s.frames)) (names_high d (lent_in text code c.args.words.now) c.args.at.now s st) (c.set_gone.ensures.stands d text code _ (c.add_name.ensures.stands d text code s st))
