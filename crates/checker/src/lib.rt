@@ -1,5 +1,6 @@
 // The checker of a function's body: one pass over its code. Each instruction is a function on the lent words and the heights of their
 // stacks, which refuses exactly where the machine of specs/Machine does, and else leaves what stands for the machine's next state.
+#![tactic(auto)]
 
 ghost use Rattle.checker.specs.Promise.{BodyRight};
 

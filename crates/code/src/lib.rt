@@ -1,4 +1,5 @@
 // Linear code: the instructions that a text is read into, and how they lie in lent words.
+#![tactic(auto)]
 
 mod from_slot;
 mod instr;

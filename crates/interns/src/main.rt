@@ -1,3 +1,5 @@
+#![tactic(auto)]
+
 // Lists the names of a text as code, before and after each spelling got one place. With an argument it counts the names of that file
 // and their spellings.
 use code::{Instr, Listing};

@@ -1,3 +1,5 @@
+#![tactic(auto)]
+
 // Any text of the language, run on trees: slow and plain, and looking at every step whether something is there.
 mod drops;
 mod eval;

@@ -1,3 +1,5 @@
+#![tactic(auto)]
+
 // What a text is told: accepted; no program; refused, with the number of the first function that isn't accepted, counted from 1, or 0
 // where something else is wrong; or too few words were lent.
 pub enum Told {

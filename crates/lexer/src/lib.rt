@@ -1,4 +1,5 @@
 // A text, cut up into tokens.
+#![tactic(auto)]
 
 mod classify;
 mod lexer;

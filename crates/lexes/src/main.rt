@@ -1,3 +1,5 @@
+#![tactic(auto)]
+
 // Counts the tokens of hostile texts: no byte, every byte, long tokens, comments that do not end. With an argument it counts those of
 // that file.
 use std::alloc::{AllocError, Global};

@@ -1,3 +1,5 @@
+#![tactic(auto)]
+
 // Memory lent to a run: words for boxes, in pools by size; words for what is under way; and turns, as a budget.
 pub mod budget;
 pub mod pool;

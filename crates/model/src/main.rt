@@ -1,3 +1,5 @@
+#![tactic(auto)]
+
 // Runs a text of the language on trees: `model FILE [--heap WORDS] [--stack WORDS] [--turns N] [--out N] [--depth N]`.
 // Numbers to read come from standard input, and each number shown goes onto a line of standard output.
 use anyhow::anyhow;

@@ -1,3 +1,5 @@
+#![tactic(auto)]
+
 // What a run on trees is made of: values, roots, boxes by size, names in scope, and how many words things take.
 pub mod arith;
 pub mod memory;

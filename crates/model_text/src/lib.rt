@@ -1,3 +1,5 @@
+#![tactic(auto)]
+
 // Texts of the language read into trees, by a reading of the model's own.
 mod cursor;
 pub mod fault;

@@ -1,4 +1,5 @@
 // From the bytes of a text to linear code in lent words, by a machine with a stack of symbols: one step a symbol, no recursion.
+#![tactic(auto)]
 
 mod action;
 mod ahead;

@@ -1,3 +1,5 @@
+#![tactic(auto)]
+
 // Reads hostile texts: none may crash, whatever they hold and however deep they nest. With an argument it reads that file, and with
 // `list` before it the code is listed.
 use anyhow::anyhow;

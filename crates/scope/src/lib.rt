@@ -1,3 +1,5 @@
+#![tactic(auto)]
+
 pub mod loans;
 pub mod log;
 pub mod names;

@@ -1,3 +1,5 @@
+#![tactic(auto)]
+
 ghost use Rattle.language.specs.Says.{NeverWrong, NothingLeft, EnoughFuel, MoreFuel};
 ghost use Rattle.soundness.specs.Preserved.{InvariantKept};
 ghost use Rattle.soundness.specs.References.{ThereTyped, ReferenceValid, NoneIntoFree, NoneBelowFree, ReferencesDown};

@@ -1,3 +1,5 @@
+#![tactic(auto)]
+
 ghost use Rattle.steady.specs.Promise.{SteadyAccepted};
 
 // Runs of accepted programs are steady: where a value is written, moved or taken apart nobody of use points inside it, where a

@@ -1,4 +1,5 @@
 // The declarations of a program: data, constructors and functions in lent words, their look-up, sizes, and what is asked besides bodies.
+#![tactic(auto)]
 
 ghost use Rattle.tables.specs.Sizes.{SizesRight};
 

@@ -1,3 +1,5 @@
+#![tactic(auto)]
+
 // Runs the texts that its arguments name: with as much as each takes, and with one less of each thing that it takes. What a text reads
 // stands at its head, behind `# reads:`.
 use anyhow::anyhow;

@@ -1,4 +1,5 @@
 // Types: plain values, that name what stands in the code. Nothing is kept for them, and the code isn't changed.
+#![tactic(auto)]
 
 mod layer;
 mod role;

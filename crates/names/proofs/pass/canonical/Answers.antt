@@ -38,10 +38,10 @@ loop-k-preserved c =
           let j = w.in-Some-rename.named in
           let r = w.in-Some-rename.ensures in
           let next = w.rename.new.table in
-          moved text words (with_slot after k (slot_of j)) c.match-decode.words next c.match-decode.table (k + 1) (w.words_is ∙ w.encode.ensures.value) w.table-is
+          moved text words (with_slot after k (slot_of j)) c.match-decode.words next c.match-decode.table (k + 1) (w.words-is ∙ w.encode.ensures.value) w.table-is
           (renamed_one text words after table next k w.in-Some.instr j c.loop-k.invariant (omega arith) (sym w.in-Some.ensures) r.gives.0 r.gives.1 r.sound r.counts r.grows)
       | in_default w ↦
-          moved text words after c.match-decode.words table c.match-decode.table (k + 1) w.words_is w.table-is
+          moved text words after c.match-decode.words table c.match-decode.table (k + 1) w.words-is w.table-is
           (passed_over text words after table k c.loop-k.invariant (sym w.in_default.ensures))
     ]
 

@@ -12,8 +12,8 @@ loop-d-preserved c =
     let l : length c.loop-d.sizes ≡ length c.args.sizes.now = c.loop-d.auto.sizes in (
       c.loop-d.invariant.0,
       elim c.if-settle.branch [
-        | then-settle w ↦ settling_as t _ _ _ _ _ w.more_is (settling_put t _ c.loop-d.sizes _ c.loop-d.d c.loop-d.more c.loop-d-test.true (omega arith) w.if-settle.ensures c.loop-d.invariant.1)
-        | else-settle w ↦ settling_as t _ _ _ _ _ w.more_is (settling_past t _ c.loop-d.sizes _ c.loop-d.d c.loop-d.more w.if-settle.ensures c.loop-d.invariant.1)
+        | then-settle w ↦ settling_as t _ _ _ _ _ w.more-is (settling_put t _ c.loop-d.sizes _ c.loop-d.d c.loop-d.more c.loop-d-test.true (omega arith) w.if-settle.ensures c.loop-d.invariant.1)
+        | else-settle w ↦ settling_as t _ _ _ _ _ w.more-is (settling_past t _ c.loop-d.sizes _ c.loop-d.d c.loop-d.more w.if-settle.ensures c.loop-d.invariant.1)
       ],
     )
 

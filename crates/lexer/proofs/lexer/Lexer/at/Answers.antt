@@ -8,7 +8,7 @@ pub invariant_of-result : goal.invariant_of-result
 invariant_of-result c =
     let text = c.args.text.now in
     let start = c.skip_blanks-start.result in
-    ((omega arith, omega arith), (none_left text start c.if-start-text.true false, (le-leb (length text) start c.if-start-text.true, tt)))
+    record { within = (omega arith, omega arith); cuts = none_left text start c.if-start-text.true false; tells = le-leb (length text) start c.if-start-text.true }
 
 pub invariant_of-result-2 : goal.invariant_of-result-2
 invariant_of-result-2 c =
@@ -16,4 +16,4 @@ invariant_of-result-2 c =
     let start = c.skip_blanks-start.result in
     let end = c.lexeme_end-end.result in
     let cut = c.lexeme_end-end.ensures in
-    ((omega arith, cut.within.1), (cut.rest, (told_some text start end c.classify.result (c.skip_blanks-start.ensures.stops c.if-start-text.false) c.classify.ensures, tt)))
+    record { within = (omega arith, cut.within.1); cuts = cut.rest; tells = told_some text start end c.classify.result (c.skip_blanks-start.ensures.stops c.if-start-text.false) c.classify.ensures }
