@@ -32,7 +32,7 @@ choose_lt true x y n1 h g = h
 choose_lt false x y n1 h g = g
 
 mod_lt : (x : ℕ) → x % two_64 < two_64
-mod_lt x = native.Mathlib.Nat.mod_lt x (let z : 0 < two_64 = omega arith in z)
+mod_lt x = native.Mathlib.Nat.mod-lt x (let z : 0 < two_64 = omega arith in z)
 
 pub worked_lt : (o x y : ℕ) → x < two_64 → y < two_64 → worked o x y < two_64
 worked_lt o x y h g = choose_lt (eqb o 0) _ _ two_64 (mod_lt (x + y)) (choose_lt (eqb o 1) _ _ two_64 (mod_lt ((x + two_64) - y)) (choose_lt (eqb o 2) _ _ two_64 (mod_lt (x * y)) (choose_lt (eqb o 3) _ _ two_64 (divs x y h) (choose_lt (eqb o 4) _ _ two_64 (mods x y h) (choose_lt (eqb o 5) _ _ two_64 (bits (eqb x y)) (bits (ltb x y)))))))
@@ -177,7 +177,7 @@ module _ (K : Kit) (F : Fits K) (P : Pools → (ℕ → ℕ) → List Class → 
       where
         by_value : (r : ℕ) (l : Slot) → root_of g x ≡ some r → at_place L r ≡ some (pl_of fb l) → M.ctl ≡ value_code K h l l.ty ∷ is → (v : Value) → Read K L (awake Z s.roots) M.words r (pl_of fb l) v → MovesClear Z.held (locs Z.flying) s.roots r v → Does K F P code (After K F P Q code fns q dw Z fb sp lo h L s.roots M.words l.ty is) M (moves s r v)
         by_value r l er ea ec2 (int_v k) rd mc = let y1 = subst (λ (v1 : Value). Lay K L M.words (fb + (l.flag + 1)) l.ty v1) rd.val rd.sits.lay in
-            copies l Z fb sp lo h is L s M (int_v k) l.ty S.base (ec2 ∙ ap (λ (t : Ty). value_code K h l t ∷ is) y1.0) S.heap S.here S.under R refl (ap K.size y1.0 ∙ F.one_Int) y1 (λ i t e rf. absurd (subst (λ (t1 : Ty). Refers t1 t) y1.0 rf))
+            copies l Z fb sp lo h is L s M (int_v k) l.ty S.base (ec2 ∙ ap (λ (t : Ty). value_code K h l t ∷ is) y1.0) S.heap S.here S.under R refl (ap K.size y1.0 ∙ F.one_int) y1 (λ i t e rf. absurd (subst (λ (t1 : Ty). Refers t1 t) y1.0 rf))
         by_value r l er ea ec2 (con_v k vs) rd mc = let y1 = subst (λ (v1 : Value). Lay K L M.words (fb + (l.flag + 1)) l.ty v1) rd.val rd.sits.lay in
             does_need K F P code s (write_at s (here r) hole) (λ z ew. moved l r (subst Holed (sym y1.1.1) tt) Z fb sp lo h is L s z M (con_v k vs) S.base (ec2 ∙ (ap (λ (t : Ty). value_code K h l t ∷ is) y1.1.1 ∙ ap (λ (t : Ty). MOVE h l.flag (K.size t) ∷ is) (sym y1.1.1))) S.heap S.here S.under R refl (con_no k vs) ea rd mc ew)
         by_value r l er ea ec2 (box_v i) rd mc = let y1 = subst (λ (v1 : Value). Lay K L M.words (fb + (l.flag + 1)) l.ty v1) rd.val rd.sits.lay in
@@ -304,7 +304,7 @@ module _ (K : Kit) (F : Fits K) (P : Pools → (ℕ → ℕ) → List Class → 
         }))
 
     words_fit : (L : List Pl) (w : ℕ → ℕ) (a : ℕ) (t : Ty) (v : Value) → Lay K L w a t v → flag_of v ≡ 1 → words_of q v ≡ K.size t
-    words_fit L w a t (int_v k) y f = sym (ap K.size y.0 ∙ F.one_Int)
+    words_fit L w a t (int_v k) y f = sym (ap K.size y.0 ∙ F.one_int)
     words_fit L w a t (con_v k vs) y f = dw k vs y.0 y.1.0 ∙ ap K.size (sym y.1.1)
     words_fit L w a t (box_v r) y f = sym (ap K.size y.1.0 ∙ F.one_box y.0)
     words_fit L w a int (ref_v l) y f = absurd y.1

@@ -61,7 +61,7 @@ module _ (K : Kit) (F : Fits K) (P : Pools → (ℕ → ℕ) → List Class → 
         (λ j g1 g2 g3. in_added K F s.roots L x1 y j lenL (in_heap Z lo L s.roots M.words j X g3 R.core (hd1.keep j g1 g2))) R.core) in
         let R1 : Rep K F P Z X L1 s1 M = record { core = c1; pool = subst (λ (us : List Place). P M.pool M.words s.classes us) (sym ebx) R.pool; sp = R.sp; turns = R.turns; ins = R.ins; outs = R.outs } in
         let pr = lf.pars fn ef in
-        let er : K.size fn.ret ≡ 1 = ap K.size pr.1 ∙ F.one_Int in
+        let er : K.size fn.ret ≡ 1 = ap K.size pr.1 ∙ F.one_int in
         let b1 : ℕ = K.resume d in let e3 : ℕ = length M.ctl in
         let hw : ℕ → ℕ = hd K F P Q code fns q dw M b1 (X + 2) a pe e3 in
         let hh = headed M.words X b1 M.fb (X + 2) M.full a pe e3 in
@@ -97,7 +97,7 @@ module _ (K : Kit) (F : Fits K) (P : Pools → (ℕ → ℕ) → List Class → 
             let W : ℕ → ℕ = O.words in let hk = rt.1 in
             let swr = F.some_word fn.ret in
             let rs2 : List Root = G1.inner.roots in let ws2 : List Root = awake Z rs2 in let L2 : List Pl = G1.L2 in
-            let er : zr ≡ 1 = ap K.size ert ∙ F.one_Int in
+            let er : zr ≡ 1 = ap K.size ert ∙ F.one_int in
             let low1 : (j : ℕ) → (j ≡ X + 2 → ⊥) → W j ≡ N.words j = λ j g. copy_off N.words (X + 2) (X + 8) zr j (λ g1 g2. g (omega arith)) in
             let O2 : Mach = to_mode O M.ctl W (tagged a d pe) in
             let lead2 : Leads K code N O2 = leads_on rt.0 (lead_one {N = O2} (RESUME d) lf.rest refl lf.at

@@ -103,9 +103,9 @@ put_no (i ∷ q) hole new l nr nv e = subst is_ref e tt
 module _ (K : Kit) (F : Fits K) (P : Pools → (ℕ → ℕ) → List Class → List Place → Type 0) (Q : Pooling K P) (code : List Instr) (fns : Lexeme → Option Entry) (q : Prog) (dw : (k : Lexeme) (vs : Values) (i : Info) → K.info k ≡ some i → words_of q (con_v k vs) ≡ K.size (dat i.home)) where
   -- a value fits into what working it out takes
   pub size_high : (G : List Slot) (e : Expr) → K.size (type_e K fns G e) ≤ high_e K fns G e
-  size_high G (num x) = let z = F.one_Int in omega arith
+  size_high G (num x) = let z = F.one_int in omega arith
   size_high G (var x) = omega arith
-  size_high G (op o d e) = let z = F.one_Int in let y = size_high G d in let sw = F.some_word (type_e K fns G d) in omega arith
+  size_high G (op o d e) = let z = F.one_int in let y = size_high G d in let sw = F.some_word (type_e K fns G d) in omega arith
   size_high G (ctor c es) = omega arith
   size_high G (boxed e) = let z = F.one_box (type_e K fns G e) in let y = size_high G e in let sw = F.some_word (type_e K fns G e) in omega arith
   size_high G (call f es) = omega arith
@@ -119,15 +119,15 @@ module _ (K : Kit) (F : Fits K) (P : Pools → (ℕ → ℕ) → List Class → 
       one (mut t) = let z = F.one_ref t in omega arith
 
       by : (o : Option Slot) → K.size (from_option o int (λ l. share_ty l.ty)) ≤ 1
-      by none = let z = F.one_Int in omega arith
+      by none = let z = F.one_int in omega arith
       by (some l) = one l.ty
   size_high G (lend x) = by (slot_of G x)
     where
       by : (o : Option Slot) → K.size (from_option o int (λ l. mut l.ty)) ≤ 1
-      by none = let z = F.one_Int in omega arith
+      by none = let z = F.one_int in omega arith
       by (some l) = let z = F.one_mut l.ty in omega arith
-  size_high G (load x) = let z = F.one_Int in omega arith
-  size_high G get_e = let z = F.one_Int in omega arith
+  size_high G (load x) = let z = F.one_int in omega arith
+  size_high G get_e = let z = F.one_int in omega arith
 
   -- the whole was dropped: on in the frame
   pub rests : {Z : Ctx} {a z lo : ℕ} {L : List Pl} {rs : List Root} {M : Mach} {st : State} {N : Mach} → M.full ≡ M.sp → AfterDrop K F P Q code fns q dw Z a z whole lo L rs M st N → Leads K code N (to_mode N N.ctl N.words running)

@@ -52,7 +52,7 @@ module _ (K : Kit) (F : Fits K) (P : Pools → (ℕ → ℕ) → List Class → 
     unfolding Z0
     whole_run steady = halting (Rattle.simulation.proofs.Relation.does_need K F P code (blank ins) (fn_named q.funs w_main) (λ fn ef.
         let M : Mach = start ps w ins in let H : ℕ = K.lent.heap in let X : ℕ = H + M.sp in
-        let mn = main fn ef in let er : K.size fn.ret ≡ 1 = ap K.size mn.1 ∙ F.one_Int in
+        let mn = main fn ef in let er : K.size fn.ret ≡ 1 = ap K.size mn.1 ∙ F.one_int in
         let ets : types_of_pars fn.pars ≡ [] = ap types_of_pars mn.0 in
         let none1 : (r j : ℕ) → Owns K [] [] r j → ⊥ = λ r j o. Rattle.simulation.proofs.Memory.no_some o.lives.is in
         let c0 : Core K Z0 H [] [] [] w = record {
