@@ -9,8 +9,8 @@ use crate::table::find;
 
 // The number of a row that has the name of one before it. Each name is looked up once.
 pub fn twice<R: Row>(text: &[u8], words: &[u64], rows: Span) -> Option<usize>
-    requires { rows.end * width ≤ length words.now }
-    ensures { MatchOption result (no_twice (all_in (λ k. spelling text.now (title (kept words.now k))) rows) ≡ true) (λ k. (no_twice (all_in (λ k. spelling text.now (title (kept words.now k))) rows) ≡ false) × (k < rows.end)) }
+    requires { rows.end * R.width ≤ length words.now }
+    ensures { MatchOption result (no_twice (all_in (λ k. spelling text.now (R.title (R.kept words.now k))) rows) ≡ true) (λ k. (no_twice (all_in (λ k. spelling text.now (R.title (R.kept words.now k))) rows) ≡ false) × (k < rows.end)) }
 {
     for i in rows.first..rows.end {
         let rest = Span {

@@ -17,8 +17,8 @@ fn spells(text: &[u8], name: Name, word: &[u8]) -> bool
 
 // The number of the first row whose name is spelled as that word, among those of a span.
 pub fn find_word<R: Row>(text: &[u8], words: &[u64], rows: Span, word: &[u8]) -> Option<usize>
-    requires { rows.end * width ≤ length words.now }
-    ensures { MatchOption result (first_in (λ k. same (spelling text.now (title (kept words.now k))) word.now) rows ≡ Nothing) (λ k. first_in (λ k. same (spelling text.now (title (kept words.now k))) word.now) rows ≡ Just k) }
+    requires { rows.end * R.width ≤ length words.now }
+    ensures { MatchOption result (first_in (λ k. same (spelling text.now (R.title (R.kept words.now k))) word.now) rows ≡ Nothing) (λ k. first_in (λ k. same (spelling text.now (R.title (R.kept words.now k))) word.now) rows ≡ Just k) }
 {
     for i in rows.first..rows.end {
         if spells(text, R::load(words, i).name(), word) {

@@ -6,5 +6,5 @@ use Rattle.tables.proofs.word.spells.Goals as goal
 
 pub returns : goal.returns
 returns c =
-    let told = slice_eq-Decides Decides-eqb _ _ _ c.eq.ensures in
+    let told = slice_eq-Decides Decides-eqb c.name_bytes.result.now c.args.word.now _ c.eq.ensures in
     same_from_decides _ _ told (compares_Decides same (search rules) _ _) ∙ ap (λ (w : List ℕ). same w c.args.word.now) c.name_bytes.ensures

@@ -8,8 +8,8 @@ use Rattle.tables.specs.Tables.{datas_in}
 use Rattle.tables.proofs.EachOf.{few_yes, few_no}
 use Rattle.tables.proofs.tables.Tables.ctor_ok.Goals as goal
 
-pub returns-then-count-gt-MOST-FIELDS : goal.returns-then-count-gt-MOST-FIELDS
-returns-then-count-gt-MOST-FIELDS c =
+pub returns-then-count-gt-MOST_FIELDS : goal.returns-then-count-gt-MOST_FIELDS
+returns-then-count-gt-MOST_FIELDS c =
     let f = the_field c.args.self in
     let p = ok_field (datas_in c.args.self) in
     let e = ap (λ (r : Declared). leb (length (all_in f r.parts)) 8 && each_of p (all_in f r.parts)) c.load.ensures in
