@@ -1,5 +1,5 @@
 -- A frame that begins.
-use Rattle.std.proofs.Common.{◌≡◌, ℕ, suc, ◌+◌, ◌<◌, ◌≤◌, List, [], ◌∷◌, ◌++◌, length, sym, refl, ap, ◌∙◌, subst, arith}
+use Rattle.std.proofs.Common.{◌≡◌, ℕ, suc, ◌+◌, ◌<◌, List, ◌∷◌, ◌++◌, length, sym, ap, ◌∙◌, subst, arith}
 use Rattle.scope.proofs.SlotWords.{length_slots}
 use Rattle.checker.specs.declared.state.State.{State}
 use Rattle.checker.specs.declared.frames.Frame.{Frame}

@@ -1,5 +1,5 @@
 -- The machine on stacks and marks does what the one on environments does, and that what the rules say.
-use Rattle.std.proofs.Common.{◌≡◌, List, [], ◌∷◌, sym, ap, ◌∙◌}
+use Rattle.std.proofs.Common.{[], ◌∷◌, sym, ap, ◌∙◌}
 use Rattle.language.specs.Base.{present}
 use Rattle.language.specs.Checks.{ref_pars, pars_env}
 use Rattle.code.specs.Instr.{i_end_fn, code_body}

@@ -1,7 +1,7 @@
 -- What's read from the words is what the machine has.
 use Rattle.std.proofs.Common.{◌≡◌, ℕ, zero, suc, ◌+◌, ◌-◌, ◌*◌, ◌<◌, ◌≤◌, min, Bool, true, false, not, ◌||◌, List, [], ◌∷◌, ◌++◌, length, get_or, Ok, Err, sym, refl, ap, ◌∙◌, subst, ap₂, append_assoc, arith}
 use mathlib.Core.Option.{Option, some, none}
-use Rattle.language.specs.Base.{choose, if_some, only_if, present, some_of, Lexeme}
+use Rattle.language.specs.Base.{if_some, only_if, present, some_of, Lexeme}
 use Rattle.language.specs.Checks.{Loan}
 use Rattle.scope.specs.Log.{Log, Gone, find, entry_at, part, lives, segments}
 use Rattle.scope.specs.Loans.{Ent, slice, leaves}
@@ -11,7 +11,7 @@ use Rattle.checker.specs.declared.state.Rule.{Rule}
 use Rattle.checker.specs.declared.frames.Call.{Call}
 use Rattle.scope.proofs.LoanWords.{some_of-++, leaves-++}
 use Rattle.checker.specs.declared.frames.Frame.{Frame}
-use Rattle.checker.specs.declared.frames.Frame.TheVariants.{Call as ACall, Then, Else, Test, Loop, Match as AMatch}
+use Rattle.checker.specs.declared.frames.Frame.TheVariants.{Call as ACall}
 use Rattle.checker.specs.FrameWords.{frame_at}
 use Rattle.checker.specs.Marks.{Mark, k_call, k_then, k_else, k_test, k_loop, k_match, State2, log_of, held2, scope, live}
 use Rattle.checker.specs.Machine.{there2, fresh2}

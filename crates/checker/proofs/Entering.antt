@@ -1,13 +1,13 @@
 -- A name that is entered: entries that are copied, and a slot more.
-use Rattle.std.proofs.Common.{◌≡◌, ℕ, zero, suc, ◌+◌, ◌-◌, ◌*◌, ◌<◌, ◌≤◌, min, Bool, List, [], ◌∷◌, ◌++◌, sym, refl, ap, ◌∙◌, subst, ap₂, arith}
+use Rattle.std.proofs.Common.{◌≡◌, ℕ, zero, suc, ◌+◌, ◌-◌, ◌≤◌, min, Bool, List, [], ◌∷◌, ◌++◌, sym, refl, ap, ◌∙◌, subst, ap₂, arith}
 use Rattle.language.specs.Syntax.{int}
 use Rattle.lexer.specs.declared.name.Name.{Name}
 use Rattle.lexer.specs.Spelling.{spelling}
 use Rattle.types.specs.declared.ty.ValueType.{ValueType}
 use Rattle.types.specs.Types.{type_of}
 use Rattle.scope.specs.declared.loans.Entry.{Entry}
-use Rattle.scope.specs.Loans.{Ent, slice, ent_of, loan_at}
-use Rattle.scope.specs.Slots.{Slot, slot_of, variable_at, slots_of}
+use Rattle.scope.specs.Loans.{slice, ent_of, loan_at}
+use Rattle.scope.specs.Slots.{slot_of, variable_at, slots_of}
 use Rattle.scope.specs.declared.names.Variable.{Variable}
 use Rattle.scope.proofs.SlotWords.{slots_step}
 use Rattle.checker.specs.declared.state.State.{State}

@@ -1,5 +1,5 @@
 -- A frame that is written is the frame that is read.
-use Rattle.std.proofs.Common.{◌≡◌, ℕ, ◌+◌, ◌*◌, ◌<◌, ◌≤◌, Bool, true, false, eqb, List, [], ◌∷◌, length, get_or, Some, None, Option, sym, refl, ap, ◌∙◌, ap₂, arith}
+use Rattle.std.proofs.Common.{◌≡◌, ℕ, ◌+◌, ◌*◌, ◌<◌, ◌≤◌, Bool, true, false, eqb, List, length, get_or, Some, None, Option, refl, ap, ◌∙◌, ap₂, arith}
 use Rattle.code.specs.declared.instr.Access.{Access}
 use Rattle.code.specs.declared.instr.Access.TheVariants.{Take, View, Edit}
 use Rattle.types.specs.declared.ty.Base.{Base}
@@ -8,11 +8,9 @@ use Rattle.scope.specs.declared.loans.Entry.{Entry}
 use Rattle.scope.specs.declared.loans.Entry.TheVariants.{Shared, Alone, Via}
 use Rattle.scope.specs.Log.{bit_of}
 use Rattle.scope.specs.Slots.{base_in, base_number, base_operand}
-use Rattle.checker.specs.declared.frames.Call.{Call}
-use Rattle.checker.specs.declared.frames.Match.{Match}
 use Rattle.checker.specs.declared.frames.Frame.{Frame}
 use Rattle.checker.specs.declared.frames.Frame.TheVariants.{Call as ACall, Then, Else, Test, Loop, Match as AMatch}
-use Rattle.checker.specs.FrameWords.{access_in, access_number, part_in, part_number, part_operand, call_in, match_in, frame_in, frame_at, numbers}
+use Rattle.checker.specs.FrameWords.{access_in, access_number, part_in, part_number, part_operand, frame_in, frame_at, numbers}
 
 abbrev of_list : List ℕ → Frame
 of_list ws = frame_in (get_or ws 0 0) (get_or ws 1 0) (get_or ws 2 0) (get_or ws 3 0) (get_or ws 4 0) (get_or ws 5 0) (get_or ws 6 0) (get_or ws 7 0) (get_or ws 8 0) (get_or ws 9 0)

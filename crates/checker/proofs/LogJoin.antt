@@ -4,7 +4,7 @@ use Rattle.language.specs.Base.{choose}
 use Rattle.language.specs.Checks.{Env, both}
 use Rattle.checker.specs.Exec.{join}
 use Rattle.checker.proofs.Keeps.{Name}
-use Rattle.scope.specs.Log.{Log, gone_at, find, gone_in, rewrite, segments, joined}
+use Rattle.scope.specs.Log.{Log, find, gone_in, rewrite, segments, joined}
 use Rattle.checker.proofs.ScopeLog.{env_of, env_same, touched, touched-++, find-++, apart, has_all, both_has}
 
 -- no more entries than the arms have

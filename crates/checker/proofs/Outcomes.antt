@@ -1,5 +1,5 @@
 -- How steps end, from how their parts do.
-use Rattle.std.proofs.Common.{◌≡◌, ℕ, Bool, true, false, not, ◌&&◌, List, Ok, Err, Result, sym, refl, ap, ◌∙◌, subst, ap₂}
+use Rattle.std.proofs.Common.{◌≡◌, ℕ, Bool, true, false, ◌&&◌, List, Ok, Err, Result, sym, refl, ap, ◌∙◌, subst}
 use mathlib.Core.Option.{Option, some, none}
 use Rattle.language.specs.Base.{if_some, only_if, Lexeme}
 use Rattle.scope.specs.Slots.{Found, At}
@@ -7,9 +7,8 @@ use Rattle.scope.specs.declared.log.Place.{Place}
 use Rattle.checker.specs.declared.state.State.{State}
 use Rattle.checker.specs.declared.state.Rule.{Rule}
 use Rattle.checker.specs.Marks.{State2}
-use Rattle.checker.specs.Stands.{Decls, Lent, Stands, Left, Steps}
+use Rattle.checker.specs.Stands.{Decls, Lent, Left, Steps}
 use Rattle.checker.specs.Held.{There}
-use Rattle.checker.specs.Outcome.{Holds}
 
 pub only_none : {A : Type 0} (b : Bool) (o : Option A) → b ≡ false → only_if b o ≡ none
 only_none b o h = ap (λ b. only_if b o) h

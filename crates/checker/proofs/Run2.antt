@@ -1,18 +1,17 @@
 -- A function from its first instruction to its end, on stacks and marks: accepted exactly if it is with environments.
 use Rattle.std.proofs.Common.{◌≡◌, Bool, true, false, not, ◌&&◌, ◌||◌, T, List, [], ◌∷◌, ◌++◌, sym, refl, ap, ◌∙◌, subst, append-nil}
 use mathlib.Core.Option.{Option, some, none}
-use Rattle.language.specs.Base.{choose, if_some, present, each_of, Lexeme, same, is_in, no_twice}
-use Rattle.language.specs.Syntax.{Param, Data}
-use Rattle.language.specs.Checks.{pars_env, names_of_pars, types_of_pars, well_made}
+use Rattle.language.specs.Base.{choose, if_some, present, Lexeme, same, is_in, no_twice}
+use Rattle.language.specs.Syntax.{Param}
+use Rattle.language.specs.Checks.{pars_env, names_of_pars}
 use Rattle.code.specs.Instr.{Instr}
-use Rattle.checker.specs.Heads.{Sig}
 use Rattle.checker.specs.Frames.{Ctx, at_rest}
 use Rattle.checker.specs.Exec.{exec, is_end, exec_all}
 use Rattle.checker.proofs.Options.{Each}
 use Rattle.checker.proofs.ScopeLog.{not_in, same_sym}
 use Rattle.scope.specs.Slots.{Slot, slot_of}
 use Rattle.checker.proofs.Slots.{as_names, env2}
-use Rattle.checker.specs.Marks.{State2, rest}
+use Rattle.checker.specs.Marks.{State2}
 use Rattle.checker.specs.Machine.{exec2, exec2_all, par_slots, start}
 use Rattle.checker.proofs.Abstract.{Inv, Scoped, abs, agree_same, agree_inv}
 use Rattle.checker.proofs.Step.{step_ok}

@@ -2,11 +2,9 @@
 use Rattle.std.proofs.Common.{◌≡◌, ◌<◌, Bool, true, false, not, eqb, List, [], ◌∷◌, length, refl, ap, ◌∙◌, arith}
 use mathlib.Core.Option.{Option, some, none}
 use Rattle.language.specs.Base.{choose, if_some, only_if, present, Lexeme, same}
-use Rattle.language.specs.Syntax.{Ty}
 use Rattle.language.specs.Checks.{Loan, Var, Env, look, fresh, there}
 use Rattle.checker.proofs.Options.{Each, if_on}
 use Rattle.checker.proofs.Keeps.{Name}
-use Rattle.scope.specs.Loans.{Ent}
 use Rattle.checker.proofs.LoanStack.{at, expand}
 use Rattle.scope.specs.Log.{Log, gone_at, find}
 use Rattle.checker.proofs.ScopeLog.{as_var, env_of, sets, eqb_same, eqb_not, same_self}

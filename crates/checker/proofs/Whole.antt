@@ -4,7 +4,7 @@ use mathlib.Core.Option.{some}
 use Rattle.language.specs.Base.{choose, if_some, Lexeme, same}
 use Rattle.language.specs.Syntax.{Ty, int, dat, box, ref, mut, Access, take, view, edit, Fn, Prog}
 use Rattle.language.specs.Checks.{fn_named, Var, Env, looks_at, data_of}
-use Rattle.checker.specs.Heads.{Sig, sig_of, sig_named}
+use Rattle.checker.specs.Heads.{sig_of, sig_named}
 use Rattle.checker.specs.Frames.{Ctx, data_only}
 use Rattle.checker.specs.Promise.{sigs_of}
 

@@ -6,7 +6,7 @@ use Rattle.language.specs.Syntax.{Ty, int, dat, box, mut, Ctor}
 use Rattle.language.specs.Checks.{same_ty, owned, ctor_named, home_of, loan, Env, look, fresh, all_loans, readable, is_free, set_gone, enter, there, typed, value, shared, loadable, holds, types_of_pars, outer, both, no_more_gone, ref_of, looks_at, covers, boxed_in, goes_in, stores, from_caller}
 use Rattle.code.specs.Instr.{Instr, i_num, i_var, i_int, i_op, i_make, i_call, i_arg, i_apply, i_box, i_share, i_lend, i_load, i_get, i_bind, i_assign, i_store, i_put, i_if, i_else, i_end_if, i_while, i_do, i_end_while, i_match, i_arm, i_name, i_body, i_end_arm, i_end_match, i_open, i_inside, i_give, i_end_fn, i_ty_int, i_ty_data, i_ty_box, i_ty_ref, i_ty_mut, i_field, i_ctor, i_data, i_param, i_fn}
 use Rattle.checker.specs.Heads.{sig_named}
-use Rattle.checker.specs.Frames.{Ctx, data_only, Match, f_call, f_then, f_else, f_test, f_loop, f_match, State, state, at_rest, held_of, with_value, with_scope, on_call, on_then, on_else, on_test, on_loop, on_match, on_one, on_none}
+use Rattle.checker.specs.Frames.{Ctx, data_only, Match, f_call, f_then, f_else, f_test, f_loop, f_match, State, at_rest, held_of, with_value, with_scope, on_call, on_then, on_else, on_test, on_loop, on_match, on_one, on_none}
 
 -- the scope behind several arms
 abbrev pub join : Env → List Env → Env

@@ -1,9 +1,8 @@
 -- Frames in words, ten to each.
-use Rattle.std.specs.Prelude.{ℕ, ◌+◌, ◌*◌, Bool, true, false, List, [], ◌∷◌, Some, None, Option, ◌==◌, slice_index}
+use Rattle.std.specs.Prelude.{ℕ, ◌+◌, ◌*◌, List, [], ◌∷◌, Some, None, Option, ◌==◌, slice_index}
 use Rattle.language.specs.Base.{choose}
 use Rattle.code.specs.declared.instr.Access.{Access}
 use Rattle.code.specs.declared.instr.Access.TheVariants.{Take, View, Edit}
-use Rattle.types.specs.declared.ty.Base.{Base}
 use Rattle.scope.specs.declared.loans.Entry.{Entry}
 use Rattle.scope.specs.Loans.{entry_in, operand_of}
 use Rattle.scope.specs.declared.loans.Entry.TheVariants.{Shared, Alone, Via}

@@ -1,8 +1,8 @@
 -- The state of the checker: a value register with the names in scope, and a stack of frames.
 use Rattle.std.specs.Prelude.{List, [], ◌∷◌, ◌++◌}
 use Rattle.std.proofs.Math.Option.{Option, some, none}
-use Rattle.language.specs.Base.{choose, if_some, Lexeme, same}
-use Rattle.language.specs.Syntax.{Ty, int, Access, Data, Param, Fn, Prog}
+use Rattle.language.specs.Base.{if_some, Lexeme}
+use Rattle.language.specs.Syntax.{Ty, int, Access, Data, Prog}
 use Rattle.language.specs.Checks.{Loan, Env, Typed}
 use Rattle.checker.specs.Heads.{Sig}
 

@@ -1,5 +1,5 @@
 -- The entries of arguments that are already there, in words.
-use Rattle.std.specs.Prelude.{◌≡◌, ℕ, zero, suc, ◌-◌, ◌<◌, min, Bool, true, false, List, [], ◌∷◌, ◌++◌, Ok, Err, Result}
+use Rattle.std.specs.Prelude.{ℕ, zero, suc, ◌-◌, ◌<◌, min, List, [], ◌++◌, Ok, Err, Result}
 use Rattle.std.proofs.Math.Option.{Option, some, none}
 use Rattle.language.specs.Base.{Lexeme}
 use Rattle.scope.specs.Loans.{Ent, slice}

@@ -1,5 +1,5 @@
 -- What the lent words and the heights of their stacks stand for: a state of the machine.
-use Rattle.std.specs.Prelude.{◌≡◌, ℕ, zero, suc, ◌+◌, ◌-◌, ◌*◌, ◌<◌, ◌≤◌, min, Bool, true, false, List, [], ◌∷◌, ◌++◌, length, Some, None, Ok, Err, Result, slice_index}
+use Rattle.std.specs.Prelude.{◌≡◌, ℕ, zero, suc, ◌+◌, ◌-◌, ◌*◌, ◌<◌, ◌≤◌, min, List, [], ◌∷◌, ◌++◌, length, Some, None, Ok, Err, Result, slice_index}
 use Rattle.std.proofs.Math.Option.{Option, some, none}
 use Rattle.std.specs.declared.option.Option as std
 use Rattle.language.specs.Base.{choose, Lexeme}
@@ -20,7 +20,6 @@ use Rattle.checker.specs.declared.frames.Match.{Match}
 use Rattle.checker.specs.declared.frames.Frame.{Frame}
 use Rattle.checker.specs.declared.frames.Frame.TheVariants.{Call as ACall, Then, Else, Test, Loop, Match as AMatch}
 use Rattle.checker.specs.FrameWords.{frame_at}
-use Rattle.checker.specs.Frames.{Ctx}
 use Rattle.checker.specs.Marks.{Matching, Mark, k_call, k_then, k_else, k_test, k_loop, k_match, State2, names_of, scope}
 
 -- the words as lists

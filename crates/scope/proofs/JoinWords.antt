@@ -1,9 +1,9 @@
 -- The join of several ways, written over their entries one by one.
-use Rattle.std.proofs.Common.{◌≡◌, ℕ, zero, suc, ◌+◌, ◌-◌, ◌*◌, ◌<◌, ◌≤◌, min, Bool, true, false, ◌||◌, T, eqb, ◌⊎◌, List, [], ◌∷◌, ◌++◌, length, get_or, drop, set, Some, None, Option, unwrap_or, sym, refl, ap, ◌∙◌, subst, ap₂, inl, inr, arith, eqb→eq, length-set, drop-cons, get_or-set_other, get_or-set_same}
+use Rattle.std.proofs.Common.{◌≡◌, ℕ, zero, suc, ◌+◌, ◌-◌, ◌*◌, ◌<◌, ◌≤◌, min, Bool, true, false, ◌||◌, T, eqb, ◌⊎◌, List, [], ◌∷◌, ◌++◌, length, get_or, drop, set, Some, None, Option, unwrap_or, sym, refl, ap, ◌∙◌, subst, ap₂, inl, inr, arith, eqb→eq, drop-cons, get_or-set_other, get_or-set_same}
 use Rattle.std.proofs.lemmas.List.{drop_all}
 use Rattle.language.specs.Base.{choose}
-use Rattle.scope.specs.Log.{Gone, gone_at, Log, find, said, or_else, entry_at, part, lives, gone_in, rewrite, ways, behind}
-use Rattle.scope.proofs.Tests.{eqb_same, eqb_not}
+use Rattle.scope.specs.Log.{gone_at, Log, find, said, or_else, entry_at, part, lives, gone_in, rewrite, ways, behind}
+use Rattle.scope.proofs.Tests.{eqb_same}
 use Rattle.scope.proofs.LogWords.{find_said, part_same}
 
 pub behind_is : (arms : List Log) (l : Log) (k : ℕ) → gone_in arms l k ≡ behind arms k (find l k)

@@ -1,7 +1,7 @@
 -- Entries of loans in words, one after the other.
-use Rattle.std.proofs.Common.{◌≡◌, ℕ, zero, suc, ◌+◌, ◌-◌, ◌*◌, ◌<◌, ◌≤◌, Bool, true, false, ◌||◌, List, [], ◌∷◌, ◌++◌, length, get_or, sym, refl, ap, ◌∙◌, ap₂, arith}
+use Rattle.std.proofs.Common.{◌≡◌, ℕ, zero, suc, ◌+◌, ◌-◌, ◌*◌, ◌<◌, ◌≤◌, Bool, true, false, ◌||◌, List, [], ◌∷◌, ◌++◌, get_or, sym, refl, ap, ◌∙◌, ap₂, arith}
 use mathlib.Core.Bool.{or_assoc}
-use Rattle.language.specs.Base.{choose, some_of}
+use Rattle.language.specs.Base.{some_of}
 use Rattle.language.specs.Checks.{Loan}
 use Rattle.scope.specs.Loans.{Ent, leaf, via, leaves, ent_of, entry_in, loan_at, slice}
 

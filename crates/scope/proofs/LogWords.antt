@@ -1,7 +1,7 @@
 -- The log in words: what one entry more or less says.
 use Rattle.std.proofs.Common.{◌≡◌, ℕ, zero, suc, ◌+◌, ◌-◌, ◌*◌, ◌<◌, ◌≤◌, min, Bool, true, false, eqb, List, [], ◌∷◌, ◌++◌, length, get_or, set, Some, None, Option, sym, refl, ap, ◌∙◌, ap₂, arith, length-set, get_or-set_other, get_or-set_same}
 use Rattle.language.specs.Base.{choose}
-use Rattle.scope.specs.Log.{Gone, gone_at, Log, find, said, or_else, entry_at, part, lives}
+use Rattle.scope.specs.Log.{gone_at, Log, find, said, or_else, entry_at, part, lives}
 use Rattle.scope.proofs.Tests.{eqb_same, eqb_not, choose_yes, choose_no}
 
 -- the newest entry of a part

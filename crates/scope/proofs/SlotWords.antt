@@ -1,5 +1,5 @@
 -- Names in words, one after the other.
-use Rattle.std.proofs.Common.{◌≡◌, ℕ, zero, suc, ◌+◌, ◌-◌, ◌*◌, ◌<◌, ◌≤◌, min, Bool, true, false, ◌&&◌, ◌||◌, T, eqb, List, [], ◌∷◌, ◌++◌, length, get_or, sym, refl, ap, ◌∙◌, subst, ap₂, arith, eqb→eq}
+use Rattle.std.proofs.Common.{◌≡◌, ℕ, zero, suc, ◌+◌, ◌-◌, ◌*◌, ◌<◌, ◌≤◌, min, Bool, true, false, ◌&&◌, ◌||◌, T, eqb, List, [], ◌∷◌, length, get_or, sym, refl, ap, ◌∙◌, subst, ap₂, arith, eqb→eq}
 use mathlib.Core.Option.{Option, some, none}
 use Rattle.language.specs.Base.{choose, some_of, Lexeme, same}
 use Rattle.language.specs.Checks.{Loan}
@@ -10,8 +10,8 @@ use Rattle.types.specs.declared.ty.Base.{Base}
 use Rattle.types.specs.declared.ty.Base.TheVariants.{Number, Data, Written}
 use Rattle.types.specs.Types.{type_of}
 use Rattle.scope.specs.declared.names.Variable.{Variable}
-use Rattle.scope.specs.Loans.{Ent, leaves, slice}
-use Rattle.scope.specs.Slots.{Slot, slot_of, stack, Found, found_at, seek, variable, variable_at, slots_of, At, Sought, outer_in, base_in, outer_number, base_number, base_operand}
+use Rattle.scope.specs.Loans.{leaves, slice}
+use Rattle.scope.specs.Slots.{Slot, slot_of, stack, Found, found_at, seek, variable, variable_at, slots_of, Sought, outer_in, base_in, outer_number, base_number, base_operand}
 use Rattle.scope.proofs.LoanWords.{some_of-++, leaves-++, slice_same}
 
 abbrev slot_at : List ℕ → List ℕ → List ℕ → List ℕ → ℕ → ℕ → Slot

@@ -1,6 +1,6 @@
 -- The loans of names: entries, each a loan or "as that older name has", and how they lie in words.
-use Rattle.std.specs.Prelude.{ℕ, zero, suc, ◌+◌, ◌*◌, Bool, true, false, ◌&&◌, List, [], ◌∷◌, ◌++◌, ◌==◌, slice_index}
-use Rattle.language.specs.Base.{choose, some_of, Lexeme, same}
+use Rattle.std.specs.Prelude.{ℕ, zero, suc, ◌+◌, ◌*◌, Bool, true, false, ◌&&◌, List, [], ◌∷◌, ◌==◌, slice_index}
+use Rattle.language.specs.Base.{choose, Lexeme, same}
 use Rattle.language.specs.Checks.{Loan, loan}
 use Rattle.lexer.specs.Spelling.{spelling}
 use Rattle.scope.specs.declared.loans.Entry.{Entry}

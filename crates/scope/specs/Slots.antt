@@ -1,5 +1,5 @@
 -- Names in scope: a stack of slots, the newest first, and how it lies in words.
-use Rattle.std.specs.Prelude.{◌≡◌, ℕ, zero, suc, ◌+◌, ◌-◌, ◌*◌, ◌<◌, min, Bool, true, false, List, [], ◌∷◌, ◌++◌, length, ◌==◌, slice_index}
+use Rattle.std.specs.Prelude.{◌≡◌, ℕ, zero, suc, ◌+◌, ◌-◌, ◌*◌, ◌<◌, min, List, [], ◌∷◌, ◌++◌, length, ◌==◌, slice_index}
 use Rattle.std.proofs.Math.Option.{Option, some, none}
 use Rattle.language.specs.Base.{choose, Lexeme, same}
 use Rattle.language.specs.Syntax.{Ty}
@@ -8,7 +8,6 @@ use Rattle.types.specs.declared.ty.Outer.{Outer}
 use Rattle.types.specs.declared.ty.Outer.TheVariants.{Plain, Ref, Mut}
 use Rattle.types.specs.declared.ty.Base.{Base}
 use Rattle.types.specs.declared.ty.Base.TheVariants.{Number, Data, Written}
-use Rattle.types.specs.declared.ty.ValueType.{ValueType}
 use Rattle.types.specs.Types.{type_of}
 use Rattle.scope.specs.declared.names.Variable.{Variable}
 use Rattle.scope.specs.Loans.{Ent, slice}

@@ -1,5 +1,5 @@
 -- A loop over the code's instructions that notes each of them.
-use Rattle.std.proofs.Common.{◌≡◌, ℕ, zero, suc, ◌+◌, ◌-◌, ◌*◌, ◌/◌, ◌<◌, ◌≤◌, Bool, List, [], ◌∷◌, ◌++◌, map, length, Some, None, Option, sym, refl, ap, ◌∙◌, subst, arith, lt→ltb}
+use Rattle.std.proofs.Common.{◌≡◌, ℕ, zero, suc, ◌+◌, ◌-◌, ◌*◌, ◌/◌, ◌<◌, ◌≤◌, Bool, List, [], ◌++◌, map, length, Some, None, Option, sym, refl, ap, ◌∙◌, subst, arith, lt→ltb}
 use Rattle.code.specs.Means.{means}
 use Rattle.code.specs.declared.instr.Instr.{Instr}
 use Rattle.tables.specs.declared.progress.Progress.{Progress}
@@ -13,9 +13,9 @@ use Rattle.language.specs.Base.{choose}
 use Rattle.language.specs.Syntax.{Ty}
 use Rattle.tables.proofs.SizeFuel.{is_true}
 use Rattle.tables.specs.Index.{span}
-use Rattle.tables.specs.Collect.{Tables, with_ty, declare, collect, tables_of}
-use Rattle.tables.specs.View.{Words, Source, tables_in, Within}
-use Rattle.tables.specs.Declares.{ty_after, Stands, Noted, NotedSlot, rows_of, used}
+use Rattle.tables.specs.Collect.{with_ty, collect, tables_of}
+use Rattle.tables.specs.View.{Words, tables_in, Within}
+use Rattle.tables.specs.Declares.{ty_after, Stands, Noted, NotedSlot, used}
 use Rattle.tables.specs.Source.{put_before, last_in, rows_held, instrs_from, source, rows_in}
 use Rattle.tables.specs.Collected.{Collected}
 

@@ -1,20 +1,18 @@
 -- Each instruction that declares something, noted in the tables.
-use Rattle.std.proofs.Common.{◌≡◌, ℕ, ◌+◌, ◌<◌, ◌≤◌, List, [], ◌∷◌, ◌++◌, get_or, sym, refl, ap, ◌∙◌, ap₂, arith}
+use Rattle.std.proofs.Common.{◌≡◌, ℕ, ◌+◌, List, [], ◌∷◌, ◌++◌, get_or, ap, ◌∙◌, ap₂, arith}
 use Rattle.language.specs.Base.{Lexeme}
 use Rattle.language.specs.Syntax.{Ty, int, Ctor, Data, Param}
-use Rattle.lexer.specs.declared.name.Name.{Name}
 use Rattle.lexer.specs.Spelling.{spelling}
-use Rattle.tables.specs.declared.span.Span.{Span}
 use Rattle.tables.specs.declared.rows.Declared.{Declared}
 use Rattle.tables.specs.declared.rows.Parameter.{Parameter}
 use Rattle.tables.specs.declared.progress.Progress.{Progress}
-use Rattle.tables.specs.Index.{span, each_from, all_in}
+use Rattle.tables.specs.Index.{all_in}
 use Rattle.tables.specs.Rows.{declared_row, param_row}
 use Rattle.tables.specs.Steps.{with_field, with_ctor, with_data, with_param, with_fn}
 use Rattle.tables.specs.Collect.{Entry, Tables, declared}
 use Rattle.tables.specs.View.{Words, Source, field_at, ctor_at, data_at, param_at, entry_at, tables_in, Within}
 use Rattle.tables.proofs.Index.{each_more, all_more, all_none}
-use Rattle.tables.proofs.Frame.{Same, ctor_by, data_by, param_by, entry_by, fields_same, ctor_with, ctors_same, data_with, datas_same, params_same, entry_with, entries_same}
+use Rattle.tables.proofs.Frame.{Same, ctor_by, data_by, param_by, entry_by, fields_same, ctors_same, datas_same, params_same, entries_same}
 
 tables_same : {ds es : List Data} {fs gs : List Entry} {t u : Ty} {ts us : List Ty} {cs ks : List Ctor} {ps qs : List Param} → ds ≡ es → fs ≡ gs → t ≡ u → ts ≡ us → cs ≡ ks → ps ≡ qs
     → (let a : Tables = record { datas = ds; entries = fs; ty = t; fields = ts; ctors = cs; params = ps } in let b : Tables = record { datas = es; entries = gs; ty = u; fields = us; ctors = ks; params = qs } in a ≡ b)

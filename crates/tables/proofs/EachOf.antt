@@ -1,5 +1,5 @@
 -- A test of each row of a range, one after the other.
-use Rattle.std.proofs.Common.{◌≡◌, ℕ, zero, suc, ◌+◌, ◌-◌, ◌<◌, ◌≤◌, Bool, true, false, ◌&&◌, eqb, leb, List, [], length, sym, refl, ap, ◌∙◌, arith, le→leb, eqb→eq, leb→le}
+use Rattle.std.proofs.Common.{◌≡◌, ℕ, zero, suc, ◌+◌, ◌-◌, ◌<◌, ◌≤◌, Bool, true, false, ◌&&◌, eqb, leb, length, sym, refl, ap, ◌∙◌, arith, le→leb, eqb→eq, leb→le}
 use Rattle.language.specs.Base.{each_of}
 use Rattle.tables.specs.declared.span.Span.{Span}
 use Rattle.tables.specs.Index.{each_from, all_in}

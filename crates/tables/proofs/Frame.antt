@@ -1,16 +1,15 @@
 -- What was declared stays as it is while rows are added behind.
-use Rattle.std.proofs.Common.{◌≡◌, ℕ, ◌+◌, ◌<◌, ◌≤◌, List, [], ◌∷◌, ◌++◌, get_or, sym, refl, ap, ◌∙◌, ap₂, arith}
+use Rattle.std.proofs.Common.{◌≡◌, ℕ, ◌+◌, ◌<◌, ◌≤◌, List, get_or, ap, ◌∙◌, arith}
 use Rattle.language.specs.Syntax.{Ty, Ctor, Data, Param}
 use Rattle.lexer.specs.Spelling.{spelling}
 use Rattle.tables.specs.declared.span.Span.{Span}
 use Rattle.tables.specs.declared.rows.Declared.{Declared}
 use Rattle.tables.specs.declared.rows.Parameter.{Parameter}
 use Rattle.tables.specs.declared.progress.Progress.{Progress}
-use Rattle.tables.specs.Index.{span, each_from, all_in}
+use Rattle.tables.specs.Index.{each_from, all_in}
 use Rattle.tables.specs.Rows.{declared_row, param_row}
-use Rattle.tables.specs.Heads.{Sig}
 use Rattle.tables.specs.Collect.{Entry}
-use Rattle.tables.specs.View.{Words, Source, field_at, ctor_at, data_at, param_at, sig_at, entry_at, Within}
+use Rattle.tables.specs.View.{Words, Source, field_at, ctor_at, data_at, param_at, entry_at, Within}
 use Rattle.tables.proofs.Index.{each_same, all_same}
 
 -- the same rows up to where the tables end

@@ -1,5 +1,5 @@
 -- A last function has one parameter.
-use Rattle.std.proofs.Common.{◌≡◌, ℕ, zero, suc, false, ◌&&◌, List, refl, ap, ◌∙◌, arith}
+use Rattle.std.proofs.Common.{◌≡◌, ℕ, zero, suc, false, ◌&&◌, refl, ap}
 use Rattle.language.specs.Base.{Lexeme}
 use Rattle.language.specs.Syntax.{Ty, int, dat, mut, Param}
 use Rattle.language.specs.Checks.{same_ty, types_of_pars, is_last}

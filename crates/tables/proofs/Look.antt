@@ -1,5 +1,5 @@
 -- Looking a name up among what stands at the numbers of a range.
-use Rattle.std.proofs.Common.{◌≡◌, ℕ, zero, suc, ◌+◌, ◌-◌, ◌<◌, ◌≤◌, Bool, true, false, List, [], ◌∷◌, sym, refl, ap, ◌∙◌, arith}
+use Rattle.std.proofs.Common.{◌≡◌, ℕ, zero, suc, ◌+◌, ◌-◌, ◌<◌, ◌≤◌, Bool, true, false, sym, refl, ap, ◌∙◌, arith}
 use mathlib.Core.Option.{Option, some, none}
 use Rattle.language.specs.Base.{choose, from_option, if_some, Lexeme, same}
 use Rattle.language.specs.Syntax.{Ctor, Data}
@@ -7,7 +7,7 @@ use Rattle.language.specs.Checks.{data_named, ctor_named, Home, home_of}
 use Rattle.tables.specs.declared.span.Span.{Span}
 use Rattle.tables.specs.Index.{span, each_from, first_from, all_in, first_in}
 use Rattle.tables.specs.Heads.{Sig, sig_named}
-use Rattle.tables.proofs.Index.{each_step, first_under, from_zero}
+use Rattle.tables.proofs.Index.{each_step, from_zero}
 
 -- the first of that name, from its number
 pub data_first : (f : ℕ → Data) (w : Lexeme) (i n : ℕ) → data_named (each_from f i n) w ≡ if_some (first_from (λ k. same (f k).name w) i n) (λ k. some (f k))

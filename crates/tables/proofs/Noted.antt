@@ -1,17 +1,15 @@
 -- What a row added to one of the tables makes of all of them.
-use Rattle.std.proofs.Common.{◌≡◌, ℕ, zero, suc, ◌+◌, ◌<◌, ◌≤◌, List, get_or, Option, sym, refl, ap, ◌∙◌, subst, ap₂, arith, below_more}
+use Rattle.std.proofs.Common.{◌≡◌, ℕ, zero, suc, ◌+◌, ◌<◌, ◌≤◌, List, get_or, Option, sym, refl, ap, ◌∙◌, subst, arith, below_more}
 use Rattle.lexer.specs.declared.name.Name.{Name}
 use Rattle.code.specs.declared.instr.Instr.{Instr}
 use Rattle.code.specs.declared.instr.Instr.TheVariants.{Field, Ctor, Data, Param, Fn}
-use Rattle.tables.specs.declared.span.Span.{Span}
 use Rattle.tables.specs.declared.rows.Declared.{Declared}
 use Rattle.tables.specs.declared.rows.Parameter.{Parameter}
 use Rattle.tables.specs.declared.progress.Progress.{Progress}
 use Rattle.tables.specs.Rows.{declared_row, param_row, end_before}
 use Rattle.tables.specs.Steps.{with_field, with_ctor, with_data, with_param, with_fn}
-use Rattle.tables.specs.View.{Words, Within}
+use Rattle.tables.specs.View.{Words}
 use Rattle.tables.specs.Declares.{Noted}
-use Rattle.tables.proofs.Frame.{Same}
 use Rattle.tables.proofs.Declares.{notes_field, notes_ctor, notes_data, notes_param, notes_fn}
 
 pub noted_as : {i j : Instr} {at : ℕ} {w v : Words} {p q : Progress} → i ≡ j → Noted j at w p v q → Noted i at w p v q

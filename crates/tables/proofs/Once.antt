@@ -1,8 +1,8 @@
 -- No name twice, over the rows of a table.
-use Rattle.std.proofs.Common.{◌≡◌, ℕ, zero, suc, ◌+◌, ◌-◌, ◌<◌, ◌≤◌, Bool, true, false, not, ◌&&◌, ◌||◌, T, eqb, List, [], ◌∷◌, ◌++◌, sym, refl, ap, ◌∙◌, ap₂, arith, eqb→eq}
+use Rattle.std.proofs.Common.{◌≡◌, ℕ, zero, suc, ◌+◌, ◌-◌, ◌<◌, ◌≤◌, Bool, true, false, not, ◌&&◌, ◌||◌, eqb, [], ◌∷◌, sym, refl, ap, ◌∙◌, ap₂, arith, eqb→eq}
 use mathlib.Core.Option.{Option, some, none}
 use lib.Dec.{eqb_refl}
-use Rattle.language.specs.Base.{choose, present, some_of, Lexeme, same, is_in, no_twice}
+use Rattle.language.specs.Base.{choose, present, Lexeme, same, is_in, no_twice}
 use Rattle.tables.specs.Index.{each_from, first_from}
 use Rattle.tables.proofs.Index.{each_step}
 use Rattle.tables.proofs.SizeFuel.{is_true, is_T}

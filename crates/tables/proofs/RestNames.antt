@@ -1,24 +1,21 @@
 -- The names that tables have, as the definitions list them.
-use Rattle.std.proofs.Common.{◌≡◌, ℕ, zero, suc, ◌+◌, ◌-◌, ◌<◌, ◌≤◌, Bool, true, false, not, ◌&&◌, ◌||◌, eqb, List, [], ◌∷◌, ◌++◌, get_or, sym, refl, ap, ◌∙◌, subst, ap₂, append-nil, arith, eqb→eq}
+use Rattle.std.proofs.Common.{◌≡◌, ℕ, zero, suc, ◌+◌, ◌-◌, ◌<◌, ◌≤◌, Bool, true, false, not, ◌&&◌, ◌||◌, eqb, List, [], ◌∷◌, ◌++◌, get_or, sym, refl, ap, ◌∙◌, ap₂, arith, eqb→eq}
 use mathlib.Core.Option.{Option, some, none}
 use lib.Dec.{eqb_refl}
 use Rattle.language.specs.Base.{choose, if_some, present, each_of, Lexeme, same, is_in, no_twice}
 use Rattle.language.specs.Syntax.{Ctor, Data}
 use Rattle.language.specs.Checks.{names_of_ctors, names_of_datas, every_ctor_name, ok_ctor}
 use Rattle.tables.specs.declared.tables.Tables.{Tables}
-use Rattle.tables.specs.declared.span.Span.{Span}
 use Rattle.tables.specs.Index.{span, each_from, first_from, all_in}
 use Rattle.tables.specs.Rows.{declared_row, end_before}
 use Rattle.tables.specs.Heads.{Sig, names_of_sigs}
 use Rattle.tables.specs.Sizes.{Fixed}
 use Rattle.tables.specs.Known.{known, sizes_in}
 use Rattle.tables.specs.Rest.{ok_drop, ok_decl}
-use Rattle.tables.specs.Tables.{datas_in, sigs_in, the_data, the_ctor, the_sig, data_number}
+use Rattle.tables.specs.Tables.{datas_in, sigs_in, the_data, the_ctor, the_sig}
 use Rattle.tables.specs.Asked.{decl_at, decls_in}
-use Rattle.tables.proofs.Index.{each_same}
 use Rattle.tables.proofs.SizeFuel.{is_true, is_T}
 use Rattle.tables.proofs.SizesOk.{size_is}
-use Rattle.tables.proofs.Once.{same_sym, in_first}
 
 from_start : {A : Type 0} (f : ℕ → A) (n : ℕ) → all_in f (span 0 n) ≡ each_from f 0 n
 from_start f n = let e : n - 0 ≡ n = omega arith in ap (each_from f 0) e

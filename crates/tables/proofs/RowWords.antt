@@ -1,5 +1,5 @@
 -- A row that is written is the row that is read, and others stay.
-use Rattle.std.proofs.Common.{◌≡◌, ℕ, ◌+◌, ◌*◌, ◌<◌, ◌≤◌, List, length, get_or, set, sym, refl, ap, ◌∙◌, ap₂, arith, length-set, get_or-set_other, get_or-set_same}
+use Rattle.std.proofs.Common.{◌≡◌, ℕ, ◌+◌, ◌*◌, ◌<◌, ◌≤◌, List, length, get_or, set, ◌∙◌, ap₂, arith, length-set, get_or-set_other, get_or-set_same}
 use Rattle.tables.specs.declared.rows.Declared.{Declared}
 use Rattle.tables.specs.declared.rows.Parameter.{Parameter}
 use Rattle.tables.specs.Rows.{declared_row, param_row}

@@ -1,7 +1,6 @@
 -- Sizes put into the table one by one: what is known stays sound, and where none can be told any more the table is fixed.
-use Rattle.std.proofs.Common.{◌≡◌, ℕ, zero, suc, ◌+◌, ◌<◌, ◌≤◌, Bool, true, false, ◌||◌, eqb, ◌≢◌, ◌⊎◌, List, length, get_or, set, sym, refl, ap, ◌∙◌, subst, inl, inr, arith, eqb→eq, get_or-set_other, get_or-set_same}
+use Rattle.std.proofs.Common.{◌≡◌, ℕ, zero, suc, ◌+◌, ◌<◌, ◌≤◌, Bool, true, false, eqb, ◌≢◌, ◌⊎◌, List, length, get_or, set, sym, refl, ap, ◌∙◌, subst, inl, inr, arith, eqb→eq, get_or-set_other, get_or-set_same}
 use mathlib.Core.Option.{Option, some, none}
-use lib.Dec.{eqb_refl}
 use Rattle.std.proofs.lemmas.Bool.{cases_eq}
 use Rattle.language.specs.Base.{choose, if_some, Lexeme, same}
 use Rattle.language.specs.Syntax.{Data}
@@ -13,7 +12,7 @@ use Rattle.tables.specs.Known.{known, sizes_in}
 use Rattle.tables.specs.Settled.{Sound, unknowns, Settles, Stuck, Advances}
 use Rattle.tables.proofs.Index.{first_inside}
 use Rattle.tables.proofs.Look.{data_first}
-use Rattle.tables.proofs.SizeFuel.{Below, some_same, none_some, if_inv, is_true, is_T, cap_inv}
+use Rattle.tables.proofs.SizeFuel.{Below, some_same, none_some, if_inv, is_T, cap_inv}
 use Rattle.tables.proofs.SizeRounds.{round_below, all_put}
 
 known_some : (n m : ℕ) → known n ≡ some m → (n ≡ m) × (0 < n)

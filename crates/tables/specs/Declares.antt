@@ -1,5 +1,5 @@
 -- What noting an instruction in the tables means, wherever the rows point at.
-use Rattle.std.specs.Prelude.{◌≡◌, ℕ, ◌+◌, ◌<◌, ◌≤◌, List, [], Some, None, Option}
+use Rattle.std.specs.Prelude.{◌≡◌, ℕ, ◌+◌, ◌<◌, ◌≤◌, [], Some, None, Option}
 use Rattle.language.specs.Base.{Lexeme}
 use Rattle.language.specs.Syntax.{Ty}
 use Rattle.code.specs.Instr as pure
@@ -7,7 +7,7 @@ use Rattle.code.specs.Means.{means}
 use Rattle.code.specs.declared.instr.Instr.{Instr}
 use Rattle.code.specs.declared.instr.Instr.TheVariants.{Num, Var, Int, Op, Make, Call, Arg, Apply, Box, Share, Lend, Load, Get, Bind, Assign, Store, Put, If, Else, EndIf, While, Do, EndWhile, Match, Arm, Part, Body, EndArm, EndMatch, Open, Inside, Give, EndFn, TyInt, TyData, TyBox, TyRef, TyMut, Field, Ctor, Data, Param, Fn}
 use Rattle.tables.specs.declared.progress.Progress.{Progress}
-use Rattle.tables.specs.Collect.{Tables, with_ty, declared, declare}
+use Rattle.tables.specs.Collect.{with_ty, declared, declare}
 use Rattle.tables.specs.View.{Words, Source, tables_in, Within}
 
 -- the type under way behind an instruction, and the function that it names as called when data is dropped

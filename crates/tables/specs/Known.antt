@@ -1,10 +1,8 @@
 -- Sizes of data in words: one for each data type, 0 while it isn't known.
-use Rattle.std.specs.Prelude.{◌≡◌, ℕ, Bool, true, false, List, Some, None, Option, ◌==◌, slice_index}
+use Rattle.std.specs.Prelude.{◌≡◌, ℕ, List, Some, None, Option, ◌==◌, slice_index}
 use Rattle.std.proofs.Math.Option.{Option as Maybe, some, none}
 use Rattle.language.specs.Base.{choose, if_some}
-use Rattle.language.specs.Syntax.{Ty, int, dat, box, ref, mut}
-use Rattle.lexer.specs.declared.name.Name.{Name}
-use Rattle.lexer.specs.Spelling.{spelling}
+use Rattle.language.specs.Syntax.{Ty}
 use Rattle.tables.specs.declared.tables.Tables.{Tables}
 use Rattle.tables.specs.View.{field_at}
 use Rattle.tables.specs.Tables.{source_of, words_in, data_number}

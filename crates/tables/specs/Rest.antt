@@ -1,7 +1,7 @@
 -- What is asked of a program besides its functions' bodies: of the names, of each data, and of the function main.
-use Rattle.std.specs.Prelude.{Bool, true, false, ◌&&◌, List, [], ◌∷◌, length, ◌==◌, nat_le}
-use Rattle.language.specs.Base.{choose, from_option, each_of, Lexeme, no_twice}
-use Rattle.language.specs.Syntax.{Ty, int, dat, mut, Data}
+use Rattle.std.specs.Prelude.{Bool, true, false, ◌&&◌, List, ◌∷◌, length, ◌==◌, nat_le}
+use Rattle.language.specs.Base.{choose, from_option, each_of, no_twice}
+use Rattle.language.specs.Syntax.{Ty, int, dat, Data}
 use Rattle.language.specs.Checks.{same_ty, types_of_pars, owned, well_made, size_of, ok_ctor, names_of_pars, names_of_datas, every_ctor_name, w_main, is_last}
 use Rattle.tables.specs.Heads.{Sig, sig_named, names_of_sigs}
 

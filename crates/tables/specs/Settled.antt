@@ -5,7 +5,7 @@ use Rattle.language.specs.Base.{choose, if_some, Lexeme}
 use Rattle.language.specs.Syntax.{dat}
 use Rattle.language.specs.Checks.{size_of}
 use Rattle.tables.specs.declared.tables.Tables.{Tables}
-use Rattle.tables.specs.Sizes.{Sizes, cap, data_by, round}
+use Rattle.tables.specs.Sizes.{cap, data_by, round}
 use Rattle.tables.specs.Tables.{datas_in, the_data}
 use Rattle.tables.specs.Known.{sizes_in}
 

@@ -4,7 +4,6 @@ use Rattle.language.specs.Base.{Lexeme}
 use Rattle.language.specs.Syntax.{Ty, Ctor, Data, Param}
 use Rattle.code.specs.Instr.{Instr}
 use Rattle.lexer.specs.Spelling.{spelling}
-use Rattle.tables.specs.declared.span.Span.{Span}
 use Rattle.tables.specs.declared.progress.Progress.{Progress}
 use Rattle.tables.specs.Index.{each_from, all_in}
 use Rattle.tables.specs.Rows.{declared_row, param_row, end_before}

@@ -1,5 +1,5 @@
 -- What a type in the code is: read backwards, from the instruction behind it.
-use Rattle.std.specs.Prelude.{◌≡◌, ℕ, zero, suc, ◌+◌, ◌/◌, ◌<◌, ◌≤◌, Bool, true, false, List, [], ◌∷◌, length, Some, None, Option, nat_lt}
+use Rattle.std.specs.Prelude.{◌≡◌, ℕ, zero, suc, ◌/◌, ◌<◌, ◌≤◌, true, false, List, length, Some, None, Option, nat_lt}
 use Rattle.language.specs.Base.{choose}
 use Rattle.language.specs.Syntax.{Ty, int, dat, box, ref, mut}
 use Rattle.language.specs.Checks.{same_ty}

@@ -1,4 +1,3 @@
-use Rattle.std.proofs.Common.{rules}
 use Rattle.tables.proofs.sizes_right.Goals as goal
 use Rattle.tables.proofs.SizesOk.{sizes_right}
 

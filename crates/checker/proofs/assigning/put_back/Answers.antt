@@ -1,16 +1,12 @@
-use Rattle.std.proofs.Common.{◌≡◌, ℕ, true, false, ◌&&◌, [], ◌∷◌, length, sym, refl, ap, ◌∙◌, subst}
+use Rattle.std.proofs.Common.{ℕ, false, [], ◌∷◌, length, sym, subst}
 use mathlib.Core.Option.{some}
-use Rattle.language.specs.Base.{only_if}
-use Rattle.language.specs.Syntax.{Ty, int, mut}
-use Rattle.language.specs.Checks.{owned, same_ty}
+use Rattle.language.specs.Syntax.{int}
 use Rattle.lexer.specs.Spelling.{spelling}
-use Rattle.types.specs.Types.{type_of}
 use Rattle.scope.specs.Log.{gone_at}
-use Rattle.scope.specs.Slots.{Found, seek}
-use Rattle.checker.specs.Marks.{State2, st as state, rest, scope, live}
-use Rattle.checker.specs.Machine.{free2, stores2, there2}
-use Rattle.checker.specs.Stands.{lent, Stands, Steps}
-use Rattle.checker.proofs.Outcomes.{only_left, on_there, on_refused, steps_and, none_and, none_second}
+use Rattle.checker.specs.Marks.{st as state, rest, scope}
+use Rattle.checker.specs.Machine.{free2}
+use Rattle.checker.specs.Stands.{lent, Stands}
+use Rattle.checker.proofs.Outcomes.{only_left}
 use Rattle.checker.proofs.assigning.put_back.Goals as goal
 
 pub returns : goal.returns

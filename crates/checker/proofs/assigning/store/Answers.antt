@@ -1,16 +1,11 @@
-use Rattle.std.proofs.Common.{◌≡◌, ℕ, true, false, ◌&&◌, [], ◌∷◌, length, sym, refl, ap, ◌∙◌, subst}
-use mathlib.Core.Option.{some}
-use Rattle.language.specs.Base.{only_if}
-use Rattle.language.specs.Syntax.{Ty, int, mut}
-use Rattle.language.specs.Checks.{owned, same_ty}
+use Rattle.std.proofs.Common.{sym, refl, ap, ◌∙◌, subst}
+use Rattle.language.specs.Syntax.{Ty}
 use Rattle.lexer.specs.Spelling.{spelling}
 use Rattle.types.specs.Types.{type_of}
-use Rattle.scope.specs.Log.{gone_at}
-use Rattle.scope.specs.Slots.{Found, seek}
-use Rattle.checker.specs.Marks.{State2, st as state, rest, scope, live}
-use Rattle.checker.specs.Machine.{free2, stores2, there2}
-use Rattle.checker.specs.Stands.{lent, Stands, Steps}
-use Rattle.checker.proofs.Outcomes.{only_left, on_there, on_refused, steps_and, none_and, none_second}
+use Rattle.checker.specs.Marks.{scope, live}
+use Rattle.checker.specs.Machine.{stores2, there2}
+use Rattle.checker.specs.Stands.{lent, Steps}
+use Rattle.checker.proofs.Outcomes.{on_there, on_refused}
 use Rattle.checker.proofs.assigning.store.Goals as goal
 
 pub returns-in-Mut : goal.returns-in-Mut

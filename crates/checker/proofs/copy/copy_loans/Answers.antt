@@ -1,4 +1,4 @@
-use Rattle.std.proofs.Common.{◌≡◌, ◌+◌, ◌*◌, ◌<◌, ◌≤◌, [], length, sym, refl, ap, ◌∙◌, arith}
+use Rattle.std.proofs.Common.{◌≡◌, ◌+◌, [], length, sym, ap, ◌∙◌, arith}
 use Rattle.scope.specs.Loans.{slice, loan_at}
 use Rattle.checker.specs.Stands.{with_loans}
 use Rattle.checker.proofs.Entering.{copied_on}

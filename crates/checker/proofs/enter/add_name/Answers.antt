@@ -1,4 +1,4 @@
-use Rattle.std.proofs.Common.{◌≡◌, ◌+◌, ◌-◌, [], length, refl, ap, ◌∙◌, arith}
+use Rattle.std.proofs.Common.{◌≡◌, [], length, refl, ap, ◌∙◌, arith}
 use Rattle.scope.specs.Slots.{slots_of}
 use Rattle.checker.specs.Stands.{lent_in, with_names}
 use Rattle.checker.proofs.Entering.{name_stands}

@@ -1,4 +1,4 @@
-use Rattle.std.proofs.Common.{◌≡◌, ℕ, false, [], ◌∷◌, sym, ◌∙◌, subst}
+use Rattle.std.proofs.Common.{ℕ, false, [], ◌∷◌, subst}
 use Rattle.language.specs.Syntax.{int}
 use Rattle.lexer.specs.Spelling.{spelling}
 use Rattle.scope.specs.Log.{gone_at}

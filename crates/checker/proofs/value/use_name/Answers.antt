@@ -1,17 +1,11 @@
-use Rattle.std.proofs.Common.{◌≡◌, true, [], ◌∷◌, sym, ap, ◌∙◌, subst}
-use mathlib.Core.Option.{some}
-use Rattle.language.specs.Base.{only_if}
-use Rattle.language.specs.Syntax.{Ty, int, mut}
-use Rattle.language.specs.Checks.{owned, loadable, loan}
+use Rattle.std.proofs.Common.{sym, ap, ◌∙◌, subst}
+use Rattle.language.specs.Syntax.{Ty}
 use Rattle.lexer.specs.Spelling.{spelling}
 use Rattle.types.specs.Types.{type_of}
-use Rattle.types.proofs.Layers.{owned_plain}
-use Rattle.scope.specs.Slots.{Found, At}
-use Rattle.scope.specs.Loans.{leaf}
-use Rattle.checker.specs.Marks.{State2, scope, held2, live}
-use Rattle.checker.specs.Machine.{val, value2, shared2, there2, free2, readable2}
+use Rattle.checker.specs.Marks.{scope, live}
+use Rattle.checker.specs.Machine.{value2, there2}
 use Rattle.checker.specs.Stands.{lent, Steps}
-use Rattle.checker.proofs.Outcomes.{only_left, on_there, on_refused, steps_and, none_and}
+use Rattle.checker.proofs.Outcomes.{on_there}
 use Rattle.checker.proofs.value.use_name.Goals as goal
 
 pub returns-in-Int : goal.returns-in-Int

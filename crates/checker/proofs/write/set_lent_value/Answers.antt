@@ -1,4 +1,4 @@
-use Rattle.std.proofs.Common.{◌≡◌, ◌+◌, ◌-◌, [], ◌∷◌, sym, ap, ◌∙◌, arith}
+use Rattle.std.proofs.Common.{◌≡◌, ◌+◌, ◌-◌, [], ◌∷◌, ap, ◌∙◌, arith}
 use Rattle.scope.specs.Loans.{ent_of, slice}
 use Rattle.checker.specs.Stands.{tops}
 use Rattle.checker.proofs.Framing.{framed_args}

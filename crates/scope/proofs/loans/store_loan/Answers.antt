@@ -1,5 +1,5 @@
-use Rattle.std.proofs.Common.{◌*◌, ap, ◌∙◌, ap₂, arith}
-use Rattle.scope.specs.Loans.{entry_in, operand_of}
+use Rattle.std.proofs.Common.{◌*◌, ◌∙◌, ap₂, arith}
+use Rattle.scope.specs.Loans.{entry_in}
 use Rattle.scope.proofs.LoanWords.{slice_same}
 use Rattle.scope.proofs.Tests.{first}
 use Rattle.scope.proofs.loans.store_loan.Goals as goal

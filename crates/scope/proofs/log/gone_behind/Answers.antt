@@ -1,4 +1,4 @@
-use Rattle.std.proofs.Common.{sym, ap, ◌∙◌, arith}
+use Rattle.std.proofs.Common.{sym, ap, ◌∙◌}
 use Rattle.scope.specs.Log.{or_else}
 use Rattle.scope.proofs.JoinWords.{behind_yes, behind_no, behind_end, value_or}
 use Rattle.scope.proofs.log.gone_behind.Goals as goal

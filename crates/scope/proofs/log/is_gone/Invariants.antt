@@ -1,4 +1,4 @@
-use Rattle.std.proofs.Common.{◌≡◌, ◌-◌, ◌≤◌}
+use Rattle.std.proofs.Common.{◌≡◌, ◌≤◌}
 use Rattle.scope.specs.Log.{find, lives}
 use Rattle.scope.proofs.log.is_gone.Given as goal
 

@@ -1,4 +1,4 @@
-use Rattle.std.proofs.Common.{◌≡◌, ◌+◌, ◌-◌, ◌*◌, ◌<◌, ◌≤◌, eqb, length, get_or, sym, ap, ◌∙◌, arith}
+use Rattle.std.proofs.Common.{◌≡◌, ◌-◌, ◌*◌, eqb, length, get_or, sym, ap, ◌∙◌, arith}
 use Rattle.scope.specs.Log.{behind, ways, find, lives, part, rewrite}
 use Rattle.scope.proofs.LogWords.{part_same}
 use Rattle.scope.proofs.JoinWords.{join_low, join_high, join_all, join_part}

@@ -1,4 +1,4 @@
-use Rattle.std.proofs.Common.{◌≡◌, ℕ, ◌+◌, ◌<◌, length, get_or, set, sym, ap, ◌∙◌, arith, get_or-set_other, get_or-set_same, below_more}
+use Rattle.std.proofs.Common.{◌≡◌, ◌+◌, length, get_or, set, ◌∙◌, arith, get_or-set_other, get_or-set_same, below_more}
 use Rattle.scope.proofs.words.write.Goals as goal
 
 pub loop-i-preserved : goal.loop-i-preserved

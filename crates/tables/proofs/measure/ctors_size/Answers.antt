@@ -1,5 +1,4 @@
-use Rattle.std.proofs.Common.{◌≡◌, ℕ, ◌+◌, sym, ap, ◌∙◌, arith}
-use mathlib.Core.Option.{Option}
+use Rattle.std.proofs.Common.{◌+◌, sym, ap, ◌∙◌, arith}
 use Rattle.language.specs.Base.{if_some}
 use Rattle.tables.specs.declared.rows.Declared.{Declared}
 use Rattle.tables.specs.Index.{all_in}

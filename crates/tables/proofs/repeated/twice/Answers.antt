@@ -1,4 +1,4 @@
-use Rattle.std.proofs.Common.{◌≡◌, ℕ, ◌+◌, ◌*◌, ◌≤◌, sym, refl, ap, ◌∙◌, mul-le-mul_right, arith}
+use Rattle.std.proofs.Common.{ℕ, ◌+◌, ◌≤◌, sym, refl, ap, ◌∙◌, mul-le-mul_right, arith}
 use Rattle.language.specs.Base.{Lexeme}
 use Rattle.lexer.specs.Spelling.{spelling}
 use Rattle.lexer.specs.declared.name.Name.{Name}

@@ -1,4 +1,4 @@
-use Rattle.std.proofs.Common.{◌≡◌, ◌<◌, length, ◌∙◌, arith, get_or-set_other, get_or-set_same, below_more}
+use Rattle.std.proofs.Common.{◌∙◌, arith, get_or-set_other, get_or-set_same, below_more}
 use Rattle.tables.proofs.sizes.forget.Goals as goal
 
 pub loop-d-preserved : goal.loop-d-preserved

@@ -1,4 +1,3 @@
-use Rattle.std.proofs.Common.{refl}
 use Rattle.tables.proofs.Settle.{fixed}
 use Rattle.tables.proofs.sizes.settle_all.Goals as goal
 

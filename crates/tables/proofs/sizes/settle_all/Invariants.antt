@@ -1,4 +1,3 @@
-use Rattle.std.proofs.Common.{◌≡◌}
 use Rattle.tables.specs.Settled.{Sound, unknowns}
 use Rattle.tables.proofs.sizes.settle_all.Given as goal
 

@@ -1,4 +1,4 @@
-use Rattle.std.proofs.Common.{◌≡◌, ◌<◌, length, refl, arith}
+use Rattle.std.proofs.Common.{◌≡◌, length, refl, arith}
 use Rattle.tables.proofs.Settle.{settling_as, settling_none, settling_put, settling_past, settled}
 use Rattle.tables.proofs.sizes.settle_each.Goals as goal
 use Rattle.tables.proofs.sizes.settle_each.Goals.{then-settle, else-settle}

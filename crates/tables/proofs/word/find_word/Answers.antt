@@ -1,4 +1,4 @@
-use Rattle.std.proofs.Common.{◌+◌, ◌*◌, ◌≤◌, refl, mul-le-mul_right, arith}
+use Rattle.std.proofs.Common.{◌+◌, ◌≤◌, refl, mul-le-mul_right, arith}
 use Rattle.tables.proofs.Index.{first_hit, first_miss, first_end}
 use Rattle.tables.proofs.word.find_word.Goals as goal
 

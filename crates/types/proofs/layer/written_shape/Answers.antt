@@ -1,4 +1,4 @@
-use Rattle.std.proofs.Common.{◌-◌, sym, refl, ◌∙◌, arith}
+use Rattle.std.proofs.Common.{sym, refl, ◌∙◌, arith}
 use Rattle.types.proofs.Layers.{written_step}
 use Rattle.types.proofs.layer.written_shape.Goals as goal
 

@@ -1,4 +1,4 @@
-use Rattle.std.proofs.Common.{◌≡◌, List}
+use Rattle.std.proofs.Common.{◌≡◌}
 use Rattle.language.specs.Checks.{same_ty}
 use Rattle.types.specs.Types.{type_of, layers}
 use Rattle.types.proofs.same.same_type.Given as goal

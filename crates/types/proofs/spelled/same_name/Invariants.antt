@@ -1,6 +1,6 @@
 use Rattle.std.proofs.Common.{◌≡◌, ◌-◌, length}
 use Rattle.language.specs.Base.{same}
-use Rattle.lexer.specs.Spelling.{spelling, lexeme_at}
+use Rattle.lexer.specs.Spelling.{lexeme_at}
 use Rattle.types.proofs.spelled.same_name.Given as goal
 
 abbrev pub invariant-loop-x : goal.invariant-loop-x

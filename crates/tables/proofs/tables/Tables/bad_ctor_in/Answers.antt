@@ -1,4 +1,4 @@
-use Rattle.std.proofs.Common.{◌<◌, sym, arith}
+use Rattle.std.proofs.Common.{sym, arith}
 use Rattle.language.specs.Checks.{ok_ctor}
 use Rattle.tables.specs.Tables.{datas_in, the_ctor}
 use Rattle.tables.proofs.EachOf.{all_no, all_on, all_end}

@@ -1,4 +1,4 @@
-use Rattle.std.proofs.Common.{◌≡◌, ℕ, ◌-◌, sym, refl, ap, arith}
+use Rattle.std.proofs.Common.{◌≡◌, ℕ, ◌-◌, refl, ap, arith}
 use Rattle.language.specs.Base.{each_of}
 use Rattle.tables.specs.Index.{each_from}
 use Rattle.tables.specs.Asked.{decl_at}

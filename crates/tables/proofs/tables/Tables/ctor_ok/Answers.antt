@@ -1,4 +1,4 @@
-use Rattle.std.proofs.Common.{◌≡◌, ◌&&◌, leb, length, sym, ap, ◌∙◌, arith}
+use Rattle.std.proofs.Common.{◌&&◌, leb, length, sym, ap, ◌∙◌, arith}
 use Rattle.language.specs.Base.{each_of}
 use Rattle.tables.specs.declared.rows.Declared.{Declared}
 use Rattle.tables.specs.Index.{all_in}

@@ -1,4 +1,4 @@
-use Rattle.std.proofs.Common.{◌≡◌, ◌<◌, ◌≤◌, sym, ap, ◌∙◌, arith}
+use Rattle.std.proofs.Common.{◌<◌, ◌≤◌, sym, ap, ◌∙◌, arith}
 use Rattle.language.specs.Checks.{ctor_named}
 use Rattle.tables.specs.declared.rows.Declared.{Declared}
 use Rattle.tables.specs.Index.{all_in}

@@ -1,7 +1,7 @@
 use Rattle.std.proofs.Common.{◌≡◌, ◌-◌, refl, ap, arith}
 use Rattle.language.specs.Checks.{home_of}
 use Rattle.tables.specs.Index.{each_from}
-use Rattle.tables.specs.Tables.{the_data, the_ctor, spelled}
+use Rattle.tables.specs.Tables.{the_data, spelled}
 use Rattle.tables.proofs.Look.{home_hit, home_miss, home_end}
 use Rattle.tables.proofs.tables.Tables.find_owner.Goals as goal
 

@@ -1,5 +1,5 @@
-use Rattle.std.proofs.Common.{◌≡◌, ℕ, ◌-◌, Bool, false, ◌&&◌, sym, ap, ◌∙◌, ap₂, arith}
-use Rattle.language.specs.Syntax.{Ty, int, dat, mut}
+use Rattle.std.proofs.Common.{◌≡◌, ◌-◌, Bool, ◌&&◌, sym, ap, ◌∙◌, arith}
+use Rattle.language.specs.Syntax.{int, dat, mut}
 use Rattle.language.specs.Checks.{same_ty, types_of_pars, is_last}
 use Rattle.types.specs.Types.{written}
 use Rattle.tables.specs.declared.rows.Declared.{Declared}

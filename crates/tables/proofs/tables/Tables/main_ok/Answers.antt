@@ -1,4 +1,4 @@
-use Rattle.std.proofs.Common.{◌≡◌, Bool, false, ◌&&◌, eqb, length, sym, ap, ◌∙◌, arith}
+use Rattle.std.proofs.Common.{Bool, false, ◌&&◌, eqb, length, sym, ap, ◌∙◌}
 use mathlib.Core.Option.{Option}
 use Rattle.language.specs.Base.{from_option}
 use Rattle.language.specs.Syntax.{int}
