@@ -1,4 +1,4 @@
-use Rattle.std.proofs.Common.{◌+◌, ◌-◌, ◌<◌, ◌≤◌, length, get_or, refl, arith, length-set, get_or-set_other, rules}
+use Rattle.std.proofs.Common.{◌<◌, length, arith, length-set, get_or-set_other, rules}
 use Rattle.memory.proofs.Places.{used_under, gave}
 use Rattle.memory.proofs.pool.PoolsPool.give_back.Goals as goal
 
