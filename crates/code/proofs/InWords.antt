@@ -1,10 +1,10 @@
 -- Instructions in words: what a written slot holds, and what it leaves as it was.
-use Rattle.std.proofs.Common.{◌≡◌, ℕ, zero, suc, ◌+◌, ◌*◌, ◌<◌, ◌≤◌, ◌≢◌, List, [], ◌∷◌, ◌++◌, map, length, get_or, drop, set, Some, None, Option as Maybe, sym, refl, ap, ◌∙◌, ap₂, append_assoc, add-one, arith, length-append, length-set, get_or-set_other, get_or-set_same}
+use Rattle.std.proofs.Common.{◌≡◌, ℕ, zero, suc, ◌+◌, ◌*◌, ◌<◌, ◌≤◌, ◌≢◌, List, [], ◌∷◌, ◌++◌, length, get_or, set, Some, refl, ap, ◌∙◌, ap₂, add-one, arith, length-set, get_or-set_other, get_or-set_same}
 use Rattle.std.specs.Option.{option_to_list}
 use Rattle.code.specs.declared.instr.Instr.{Instr}
 use Rattle.code.specs.declared.slot.Slot.{Slot}
 use Rattle.code.specs.Slots.{slot, slot_of, held}
-use Rattle.code.specs.Words.{slot_in, instr_at, with_slot, instrs_in, Filled}
+use Rattle.code.specs.Words.{slot_in, instr_at, with_slot, instrs_in}
 use Rattle.code.proofs.RoundTrip.{round_trip}
 
 module _ (words : List ℕ) (k : ℕ) (s : Slot) where

@@ -1,8 +1,6 @@
 -- A slot holds the instruction that was put into it.
 use Rattle.std.proofs.Common.{◌≡◌, Some, None, refl}
-use Rattle.code.specs.declared.instr.Operator.{Operator}
 use Rattle.code.specs.declared.instr.Operator.TheVariants.{Add, Sub, Mul, Div, Rem, Equal, Less}
-use Rattle.code.specs.declared.instr.Access.{Access}
 use Rattle.code.specs.declared.instr.Access.TheVariants.{Take, View, Edit}
 use Rattle.code.specs.declared.instr.Instr.{Instr}
 use Rattle.code.specs.declared.instr.Instr.TheVariants.{Num, Var, Int, Op, Make, Call, Arg, Apply, Box, Share, Lend, Load, Get, Bind, Assign, Store, Put, If, Else, EndIf, While, Do, EndWhile, Match, Arm, Part, Body, EndArm, EndMatch, Open, Inside, Give, EndFn, TyInt, TyData, TyBox, TyRef, TyMut, Field, Ctor, Data, Param, Fn}

@@ -1,5 +1,5 @@
 -- What an instruction in words means, over the text that its names are places of.
-use Rattle.std.specs.Prelude.{ℕ, List, [], ◌∷◌, Some, None, Option}
+use Rattle.std.specs.Prelude.{ℕ, List, [], Some, None, Option}
 use Rattle.language.specs.Base.{Lexeme}
 use Rattle.language.specs.Syntax as syntax
 use Rattle.lexer.specs.declared.name.Name.{Name}

@@ -1,7 +1,6 @@
 -- Worked programs, read, checked and run by the definitions: each holds by computing.
 use mathlib.Core.Bool.{Bool, true, false}
 use mathlib.Core.List.{List, [], ◌∷◌, ◌++◌}
-use mathlib.Core.Option.{Option, some, none}
 use mathlib.Core.Path.{◌≡◌, refl}
 use Prim.Native.Nat.{ℕ}
 use lib.Chars.{codes}
@@ -9,7 +8,7 @@ use Rattle.language.specs.Base.{from_option}
 use Rattle.language.specs.Syntax.{Prog}
 use Rattle.language.specs.Text.{reads}
 use Rattle.language.specs.Checks.{accepts}
-use Rattle.language.specs.Meaning.{Value, int_v, Stop, wrong, no_heap, no_stack, no_turns, Limits, Res, ok, stop, then, need, turn, goes_under, eval, run}
+use Rattle.language.specs.Meaning.{Value, int_v, Stop, wrong, no_heap, Limits, Res, ok, stop, then, need, turn, goes_under, eval, run}
 use Rattle.language.specs.Says.{first_bad}
 
 -- how a text fares: no text; refused, at which function; or accepted

@@ -1,5 +1,5 @@
 -- The tests of the definition on the next lexeme, as questions to the token ahead.
-use Rattle.std.proofs.Common.{◌≡◌, ℕ, zero, suc, ◌<◌, Bool, true, false, not, ◌&&◌, ◌||◌, eqb, leb, List, [], ◌∷◌, length, get_or, Some, None, Option as Maybe, sym, refl, ap, ◌∙◌, subst, true≢false, arith, MatchOption}
+use Rattle.std.proofs.Common.{◌≡◌, ℕ, zero, suc, ◌<◌, Bool, true, false, not, eqb, List, [], ◌∷◌, length, get_or, Some, None, Option as Maybe, sym, refl, ap, ◌∙◌, true≢false, arith, MatchOption}
 use mathlib.Core.Option.{some, none}
 use Rattle.std.proofs.lemmas.Bool.{and_parts, and_left, or_parts}
 use Rattle.language.specs.Base.{Lexeme, same, is_in}
@@ -7,7 +7,7 @@ use Rattle.language.specs.Text.{peek, leading, is_lower, is_upper, is_number, va
 use Rattle.lexer.specs.Spelling.{spelling}
 use Rattle.lexer.specs.Tokens.{spelled, drawn, signs, Means, digit, large, small}
 use Rattle.lexer.specs.Left.{Next}
-use Rattle.lexer.specs.Asks.{sign_number, keyword_number, sign_ahead, keyword_ahead, lower_ahead, upper_ahead, number_ahead}
+use Rattle.lexer.specs.Asks.{sign_ahead, keyword_ahead, lower_ahead, upper_ahead, number_ahead}
 use Rattle.lexer.specs.declared.token.Keyword.{Keyword}
 use Rattle.lexer.specs.declared.token.Keyword.TheVariants.{Data, Drop, By, Fn, Let, Put, If, Else, While, Take, View, Edit, Open, Inside, Give, Box, Ref, Mut, Int, Get}
 use Rattle.lexer.specs.declared.token.Sign.{Sign}

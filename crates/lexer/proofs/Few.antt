@@ -1,5 +1,5 @@
 -- A text has no more lexemes than bytes.
-use Rattle.std.proofs.Common.{◌≡◌, ℕ, ◌+◌, ◌≤◌, Bool, true, false, eqb, List, [], ◌∷◌, ◌++◌, length, refl, arith, length-append}
+use Rattle.std.proofs.Common.{ℕ, ◌+◌, ◌≤◌, Bool, true, false, eqb, List, [], ◌∷◌, ◌++◌, length, arith, length-append}
 use Rattle.std.proofs.lemmas.List.{length_push}
 use Rattle.language.specs.Base.{Lexeme, choose}
 use Rattle.language.specs.Text.{Lexing, idle, collecting, after_equals, skipping, Lexed, moved, starts, reads_byte, is_word_byte, is_blank, tokenize}

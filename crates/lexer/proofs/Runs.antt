@@ -1,11 +1,11 @@
 -- A word as a whole: the longest run of word bytes.
-use Rattle.std.proofs.Common.{◌≡◌, ℕ, ◌+◌, ◌-◌, ◌<◌, ◌≤◌, Bool, true, false, List, [], ◌∷◌, ◌++◌, length, get_or, take, drop, sym, refl, ap, ◌∙◌, append_assoc, append-nil, arith, length-drop, length-take}
+use Rattle.std.proofs.Common.{◌≡◌, ℕ, ◌+◌, ◌-◌, ◌<◌, ◌≤◌, Bool, true, false, List, [], ◌∷◌, ◌++◌, length, get_or, drop, sym, refl, ap, ◌∙◌, append_assoc, append-nil, arith, length-drop, length-take}
 use Rattle.std.proofs.lemmas.List.{drop_more, drop_all, drop-drop}
 use Rattle.language.specs.Base.{Lexeme, choose}
-use Rattle.language.specs.Text.{idle, collecting, starts, is_word_byte, tokenize}
+use Rattle.language.specs.Text.{idle, collecting, is_word_byte, tokenize}
 use Rattle.lexer.specs.Places.{from_place, part, skipped}
 use Rattle.lexer.specs.Spelling.{word_run, lexeme_at}
-use Rattle.lexer.proofs.Cut.{after, choose_true, choose_false, starts_seen, starts_word, one_byte, part_more, part_none}
+use Rattle.lexer.proofs.Cut.{after, choose_true, choose_false, starts_seen, starts_word, part_more}
 
 abbrev Goal : Lexeme → List ℕ → Lexeme → Type 0
 Goal piece bytes run = tokenize (collecting piece) bytes ≡ (piece ++ run) ∷ tokenize idle (drop (length run) bytes)

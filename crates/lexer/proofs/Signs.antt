@@ -1,5 +1,5 @@
 -- Lexemes that are signs, by their length.
-use Rattle.std.proofs.Common.{◌≡◌, ℕ, Bool, true, false, ◌&&◌, ◌||◌, eqb, List, [], ◌∷◌, length, get_or, Option as Maybe, sym, refl, ap, ◌∙◌, subst, arith, MatchOption}
+use Rattle.std.proofs.Common.{◌≡◌, ℕ, Bool, true, false, ◌&&◌, eqb, [], ◌∷◌, length, get_or, Option as Maybe, refl, subst, arith, MatchOption}
 use Rattle.language.specs.Base.{Lexeme, same, is_in}
 use Rattle.language.specs.Text.{sg_is}
 use Rattle.lexer.specs.Tokens.{drawn, signs}

@@ -1,6 +1,6 @@
 -- What the fields of a lexer say of the lexemes that are left.
-use Rattle.std.proofs.Common.{◌≡◌, ℕ, ◌≤◌, true, false, not, ◌&&◌, leb, List, [], ◌∷◌, length, get_or, Some, None, Option as Maybe, sym, refl, ap, ◌∙◌, subst, arith}
-use Rattle.std.proofs.lemmas.Bool.{and_from, and_parts, le-leb, leb-true}
+use Rattle.std.proofs.Common.{◌≡◌, ℕ, ◌≤◌, true, false, not, List, ◌∷◌, length, get_or, Some, None, Option as Maybe, sym, ap, ◌∙◌, subst, arith}
+use Rattle.std.proofs.lemmas.Bool.{and_from, and_parts, leb-true}
 use Rattle.language.specs.Text.{peek, skip_one}
 use Rattle.lexer.specs.Places.{from_place, part, skipped}
 use Rattle.lexer.specs.Tokens.{Means, fits}

@@ -1,5 +1,5 @@
 -- Questions to the token ahead, if there is one.
-use Rattle.std.specs.Prelude.{ℕ, Bool, true, false, Some, None, Option, ◌==◌}
+use Rattle.std.specs.Prelude.{ℕ, Bool, false, Some, None, Option, ◌==◌}
 use Rattle.lexer.specs.declared.name.Name.{Name}
 use Rattle.lexer.specs.declared.token.Keyword.{Keyword}
 use Rattle.lexer.specs.declared.token.Keyword.TheVariants.{Data, Drop, By, Fn, Let, Put, If, Else, While, Take}

@@ -1,11 +1,11 @@
 -- The counts by size that the meaning keeps, and the places of a pool: refused in the one exactly if in the other.
-use Rattle.std.proofs.Common.{◌≡◌, ℕ, suc, ◌+◌, ◌-◌, ◌*◌, ◌<◌, ◌≤◌, Bool, true, false, eqb, ltb, leb, ◌≢◌, ◌⊎◌, List, [], ◌∷◌, ◌++◌, length, sym, refl, ap, ◌∙◌, subst, inl, inr, mul-suc, arith, le-ltb, lt-ltb, eq-eqb, ne_eqb, eqb-true}
+use Rattle.std.proofs.Common.{◌≡◌, ℕ, suc, ◌+◌, ◌-◌, ◌*◌, ◌<◌, ◌≤◌, Bool, true, false, eqb, ltb, ◌≢◌, ◌⊎◌, List, [], ◌∷◌, ◌++◌, length, sym, refl, ap, ◌∙◌, subst, inl, inr, mul-suc, arith, le-ltb, lt-ltb, eq-eqb, ne_eqb, eqb-true}
 use borrow.Author.Tests.{eqb-false}
 use Rattle.language.specs.Base.{choose}
 use Rattle.language.specs.Meaning.{Class, count_in, count_out, peaks}
 use Rattle.memory.specs.Place.{Place, place, total, of_size, but_first}
 use Rattle.memory.specs.Peaks.{now_of, peak_of, many, Tied, StepIn, PoolsFollowPeaks}
-use Rattle.memory.proofs.Places.{AtSize, at_size, but_other, but_none, total_in}
+use Rattle.memory.proofs.Places.{at_size, but_other, but_none, total_in}
 
 by_test : (b : Bool) → (b ≡ true) ⊎ (b ≡ false)
 by_test true = inl refl

@@ -1,7 +1,6 @@
 -- Laws of places: moving one between what's in use and what's free.
-use Rattle.std.proofs.Common.{◌≡◌, ℕ, ◌+◌, ◌-◌, ◌<◌, ◌≤◌, Bool, true, false, eqb, ◌≢◌, ◌⊎◌, List, [], ◌∷◌, ◌++◌, length, get_or, set, sym, refl, ap, ◌∙◌, subst, inl, inr, append_assoc, arith, length-set, get_or-set_other, get_or-set_same, eq-eqb, ne_eqb, eqb-true}
+use Rattle.std.proofs.Common.{◌≡◌, ℕ, ◌+◌, ◌-◌, ◌<◌, ◌≤◌, Bool, true, false, eqb, ◌≢◌, ◌⊎◌, List, [], ◌∷◌, ◌++◌, length, get_or, set, sym, refl, ap, ◌∙◌, subst, inl, inr, append_assoc, arith, length-set, get_or-set_other, get_or-set_same, ne_eqb, eqb-true}
 use borrow.Author.Tests.{eqb-false}
-use Rattle.language.specs.Base.{choose}
 use Rattle.memory.specs.Place.{Place, place, Apart, ApartAll, Disjoint, Under, total, of_size, but_first, first_or, Chain}
 use Rattle.memory.specs.Pooled.{Pooled, Got, Refused}
 

@@ -1,5 +1,5 @@
 -- What a pool promises, over what is in use and what is free.
-use Rattle.std.specs.Prelude.{◌≡◌, ℕ, ◌+◌, ◌<◌, ◌≤◌, List, [], ◌∷◌, ◌++◌, length, get_or, set, Some, None, Option}
+use Rattle.std.specs.Prelude.{◌≡◌, ℕ, ◌+◌, ◌<◌, ◌≤◌, List, [], ◌∷◌, ◌++◌, Some, None, Option}
 use Rattle.memory.specs.Place.{Place, place, total, of_size, but_first, first_or}
 use Rattle.memory.specs.declared.pool.Address.{Address}
 

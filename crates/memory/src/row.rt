@@ -147,11 +147,11 @@ impl Sink for Referred {
 
 // Moves n words.
 pub fn move_words<S: Source, T: Sink>(m: &mut Memory, s: &S, t: &T, n: Size)
-    requires has { has s.now (heap_words m.old) (stack_words m.old) n.0 }
-    requires holds { holds t.now (heap_words m.old) (stack_words m.old) n.0 }
-    requires apart { Apart (from s.now (heap_words m.old)) (to t.now (heap_words m.old)) n.0 }
+    requires has { S.has s.now (heap_words m.old) (stack_words m.old) n.0 }
+    requires holds { T.holds t.now (heap_words m.old) (stack_words m.old) n.0 }
+    requires apart { Apart (S.from s.now (heap_words m.old)) (T.to t.now (heap_words m.old)) n.0 }
     ensures same { SamePools m.old m.new }
-    ensures moved { Moved (row m.old) (row m.new) (from s.now (heap_words m.old)) (to t.now (heap_words m.old)) n.0 }
+    ensures moved { Moved (row m.old) (row m.new) (S.from s.now (heap_words m.old)) (T.to t.now (heap_words m.old)) n.0 }
 {
     for i in 0..n.0 {
         let v = s.read(m, i);

@@ -7,6 +7,7 @@ use interpreter::input::numbers;
 use interpreter::run::{Limits, Outcome, run_text};
 use std::env::Args;
 use std::io::Write;
+use std::process::ExitCode;
 use std::{env, fs, io};
 
 const USAGE: &str =
@@ -43,7 +44,7 @@ fn set(limits: Limits, flag: &str, value: &str) -> anyhow::Result<Limits> {
             depth: number,
             ..limits
         }),
-        _ => Err(USAGE.into()),
+        _ => Err(anyhow!("{USAGE}")),
     }
 }
 
@@ -58,11 +59,11 @@ fn requested(mut args: Args) -> anyhow::Result<Request> {
         };
         if arg.as_str().starts_with("--") {
             let Some(value) = args.next() else {
-                return Err(USAGE.into());
+                return Err(anyhow!("{USAGE}"));
             };
             found.limits = set(found.limits, arg.as_str(), value.as_str())?;
         } else if found.file.is_some() {
-            return Err(USAGE.into());
+            return Err(anyhow!("{USAGE}"));
         } else {
             found.file = Some(arg);
         }
@@ -84,7 +85,7 @@ fn run(rt: &HostRuntime) -> anyhow::Result<Outcome> {
     let _ = args.next();
     let Request { file, limits } = requested(args)?;
     let Some(file) = file else {
-        return Err(USAGE.into());
+        return Err(anyhow!("{USAGE}"));
     };
     let text = fs::read(rt, file.as_str())?;
     let input = io::read_to_string(heap, rt.stdin())?;
@@ -96,7 +97,7 @@ fn run(rt: &HostRuntime) -> anyhow::Result<Outcome> {
     Ok(outcome)
 }
 
-fn main(rt: HostRuntime) -> anyhow::Result<()> {
+fn main(rt: HostRuntime) -> anyhow::Result<ExitCode> {
     let outcome = run(&rt)?;
     let used = outcome.used;
     let heap = used.heap;
@@ -111,7 +112,7 @@ fn main(rt: HostRuntime) -> anyhow::Result<()> {
     };
     told?;
     match outcome.end {
-        Ok(_) => Ok(()),
-        Err(stop) => Err(stop.told().into()),
+        Ok(_) => Ok(ExitCode::SUCCESS),
+        Err(_) => Ok(ExitCode::FAILURE),
     }
 }

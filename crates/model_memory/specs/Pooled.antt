@@ -1,5 +1,5 @@
 -- Boxes by size, as the definitions count them.
-use Rattle.std.specs.Prelude.{◌≡◌, ℕ, ◌<◌, ◌≤◌, List, [], ◌∷◌}
+use Rattle.std.specs.Prelude.{List, [], ◌∷◌}
 use Rattle.language.specs.Meaning as meaning
 use Rattle.model_memory.specs.declared.pools.Class.{Class}
 

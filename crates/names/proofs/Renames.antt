@@ -1,5 +1,5 @@
 -- Other places for the names of an instruction, in its slot.
-use Rattle.std.proofs.Common.{◌≡◌, ℕ, Bool, true, false, ◌⊎◌, List, [], Some, None, Option as Maybe, sym, refl, ap, ◌∙◌, subst, ap₂, inl, inr, MatchOption}
+use Rattle.std.proofs.Common.{◌≡◌, ℕ, Bool, true, false, List, [], Some, None, Option as Maybe, sym, refl, ap, ◌∙◌, subst, ap₂, inl, inr, MatchOption}
 use Rattle.lexer.specs.Spelling.{lexeme_at}
 use Rattle.code.specs.declared.instr.Operator.TheVariants.{Add, Sub, Mul, Div, Rem, Equal, Less}
 use Rattle.code.specs.declared.instr.Access.TheVariants.{Take, View, Edit}

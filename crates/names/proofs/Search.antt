@@ -1,12 +1,12 @@
 -- A search over the buckets of a table: what was passed, and what is known where it ends.
-use Rattle.std.proofs.Common.{◌≡◌, ℕ, suc, ◌+◌, ◌-◌, ◌<◌, ◌≤◌, true, false, ◌⊎◌, List, length, get_or, sym, refl, ap, ◌∙◌, subst, inl, inr, true≢false, arith}
+use Rattle.std.proofs.Common.{◌≡◌, ℕ, suc, ◌+◌, ◌-◌, ◌<◌, false, ◌⊎◌, List, length, get_or, sym, ap, ◌∙◌, subst, inl, inr, true≢false, arith}
 use Rattle.std.proofs.lemmas.Bool.{cases_order}
 use Rattle.language.specs.Base.{Lexeme, same}
 use Rattle.lexer.specs.Spelling.{lexeme_at}
 use Rattle.lexer.proofs.Same.{same_refl}
 use Rattle.names.specs.Hash.{home, next_bucket, walk}
 use Rattle.names.specs.Table.{Holds, Has, Reached, Sound, Full, Room}
-use Rattle.names.proofs.Walks.{Comes, comes}
+use Rattle.names.proofs.Walks.{comes}
 
 -- a bucket that is taken by another spelling
 pub record Passed (text table : List ℕ) (w : Lexeme) (i : ℕ) : Type 0 where

@@ -1,5 +1,5 @@
 -- A number of a spelling, and the buckets from there on.
-use Rattle.std.specs.Prelude.{ℕ, zero, suc, ◌+◌, ◌*◌, ◌%◌, List, [], ◌∷◌, bit_xor, nat_lt}
+use Rattle.std.specs.Prelude.{ℕ, zero, suc, ◌+◌, ◌*◌, ◌%◌, [], ◌∷◌, bit_xor, nat_lt}
 use Rattle.language.specs.Base.{Lexeme, choose}
 
 abbrev pub hash : ℕ → Lexeme → ℕ

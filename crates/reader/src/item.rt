@@ -140,7 +140,7 @@ fn data_item(c: &mut Cursor) -> Result<Action, Expected>
 // Behind fn.
 fn fn_item(c: &mut Cursor) -> Result<Action, Expected>
     ensures does { Does c.old c.new result step_fn }
-    ensures text { text_of c.exit.now ≡ text_of c.entry.now }
+    ensures text { text_of c.new ≡ text_of c.old }
 {
     let name = c.lower(Expected::Name)?;
     c.expect_sign(Sign::LeftParen)?;

@@ -1,5 +1,5 @@
 ghost use Rattle.std.specs.Prelude.{◌≡◌};
-ghost use Rattle.reader.specs.Symbol.{step as step_of_lem, s_token};
+ghost use Rattle.reader.specs.Symbol.{step as step_of, s_token};
 ghost use Rattle.lexer.specs.Tokens.{spelled, drawn};
 ghost use Rattle.reader.specs.Steps.{symbol_of};
 ghost use Rattle.reader.specs.Tokens.{text_of, Does};
@@ -14,7 +14,7 @@ use lexer::{Keyword, Sign};
 
 // A keyword that has to stand here.
 fn keyword(c: &mut Cursor, k: Keyword) -> Result<Action, Expected>
-    ensures does { Does c.old c.new result (step_of_lem (s_token (spelled k))) }
+    ensures does { Does c.old c.new result (step_of (s_token (spelled k))) }
     ensures text { text_of c.new ≡ text_of c.old }
 {
     c.expect_keyword(k)?;
@@ -23,7 +23,7 @@ fn keyword(c: &mut Cursor, k: Keyword) -> Result<Action, Expected>
 
 // A sign that has to stand here.
 fn sign(c: &mut Cursor, s: Sign) -> Result<Action, Expected>
-    ensures does { Does c.old c.new result (step_of_lem (s_token (drawn s))) }
+    ensures does { Does c.old c.new result (step_of (s_token (drawn s))) }
     ensures text { text_of c.new ≡ text_of c.old }
 {
     c.expect_sign(s)?;
@@ -32,7 +32,7 @@ fn sign(c: &mut Cursor, s: Sign) -> Result<Action, Expected>
 
 // One step: what stands in the place of the symbol that was on top.
 pub fn step(c: &mut Cursor, symbol: Symbol) -> Result<Action, Expected>
-    ensures does { Does c.old c.new result (step_of_lem (symbol_of (text_of c.old) symbol)) }
+    ensures does { Does c.old c.new result (step_of (symbol_of (text_of c.old) symbol)) }
     ensures text { text_of c.new ≡ text_of c.old }
 {
     match symbol {

@@ -1,16 +1,11 @@
 -- The induction on fuel: one record of statements, from one fuel to the next.
-use mathlib.Core.Path.{◌≡◌, refl, sym, ap, subst, ◌∙◌}
-use mathlib.Core.Bool.{Bool, true, false, ◌&&◌, not}
-use mathlib.Core.List.{List, [], ◌∷◌, ◌++◌, append_assoc}
-use mathlib.Core.Option.{Option, some, none}
-use mathlib.Core.Logic.{◌⊎◌, inl, inr}
-use Prim.Native.Nat.{ℕ, zero, suc, ◌+◌, ◌-◌, ◌*◌, ◌/◌, ◌%◌, ◌≤◌, ◌<◌, max}
-use native.Mathlib.Omega.{arith}
-use lib.ListN.{length, drop}
-use lib.Dec.{eqb, ltb, leb, T}
-use Rattle.language.specs.Base.{Lexeme, choose, from_option, if_some, at_place, set_at, same}
-use Rattle.language.specs.Syntax.{Ty, int, dat, box, ref, mut, Expr, num, var, op, ctor, boxed, call, share, lend, load, get_e, Stmt, bind, assign, store, put_s, cond, loop, match_s, open_s, inside, Tail, give, give_cond, give_match, Prog}
-use Rattle.language.specs.Meaning.{Value, con_v, Values, Class, words_of, eval}
+use mathlib.Core.Path.{◌≡◌}
+use mathlib.Core.List.{List}
+use mathlib.Core.Option.{Option, some}
+use Prim.Native.Nat.{ℕ, zero, suc}
+use Rattle.language.specs.Base.{Lexeme}
+use Rattle.language.specs.Syntax.{dat, num, var, op, ctor, boxed, call, share, lend, load, get_e, bind, assign, store, put_s, cond, loop, match_s, open_s, inside, give, give_cond, give_match, Prog}
+use Rattle.language.specs.Meaning.{con_v, Values, Class, words_of, eval}
 use Rattle.simulation.proofs.Machine.{Kit, Info, Place, Pools, Instr}
 use Rattle.simulation.proofs.Lowering.{Entry}
 use Rattle.simulation.proofs.Memory.{Fits}

@@ -1,23 +1,20 @@
 -- Arguments, one behind the other; constructors, built in place.
 use mathlib.Core.Path.{◌≡◌, refl, sym, ap, subst, ◌∙◌}
-use mathlib.Core.Bool.{Bool, true, false, ◌&&◌, not}
-use mathlib.Core.List.{List, [], ◌∷◌, ◌++◌, append_assoc}
-use mathlib.Core.Option.{Option, some, none}
-use mathlib.Core.Logic.{◌⊎◌, inl, inr}
-use Prim.Native.Nat.{ℕ, zero, suc, ◌+◌, ◌-◌, ◌*◌, ◌/◌, ◌%◌, ◌≤◌, ◌<◌, max}
+use mathlib.Core.List.{List, [], ◌∷◌}
+use mathlib.Core.Option.{Option, some}
+use mathlib.Core.Logic.{inl}
+use Prim.Native.Nat.{ℕ, suc, ◌+◌, ◌≤◌, ◌<◌}
 use native.Mathlib.Omega.{arith}
-use lib.ListN.{length, drop}
-use lib.Dec.{eqb, ltb, leb, T}
-use Rattle.language.specs.Base.{Lexeme, choose, from_option, if_some, at_place, set_at, same}
-use Rattle.language.specs.Syntax.{Ty, int, dat, box, ref, mut, Expr, num, var, op, ctor, boxed, call, share, lend, load, get_e, Exprs, nil_e, cons_e, Prog}
-use Rattle.language.specs.Meaning.{Loc, Value, int_v, con_v, box_v, ref_v, hole, Values, nil_v, cons_v, append, Root, Class, State, Limits, Res, ok, stop, then, need, Name, Env, words_of, eval, evals}
-use Rattle.simulation.proofs.Machine.{Kit, Info, Place, Pools, Instr, NUM, STUCK, Mode, running, Mach, Next, go, halt, upd, copy, sets, does, Runs, Leads, leads_on, lead_one}
-use Rattle.simulation.proofs.Lowering.{Slot, Sc, slot_of, Entry, type_e, code_e, code_es, high_e, high_es, Suf, suf_trans, later, same1, suf_e, suf_es}
-use Rattle.simulation.proofs.Memory.{no_some, some_is, Pl, Lay, Lays, total, Fits, Ext, Live, flag_of, Refers, Owns, Mem, upd_same, upd_other, copied, copied_all, lay_ext}
-use Rattle.simulation.proofs.Context.{Flying, Dying, Ctx, Has, has_this, has_rest, roots_in_dying, locs, awake, with_flying, fly, Core, core_less}
+use Rattle.language.specs.Base.{Lexeme, from_option}
+use Rattle.language.specs.Syntax.{Ty, int, dat, box, ref, mut, ctor, Exprs, nil_e, cons_e, Prog}
+use Rattle.language.specs.Meaning.{Loc, Value, int_v, con_v, box_v, ref_v, hole, Values, nil_v, cons_v, append, Root, Class, State, Env, words_of, eval, evals}
+use Rattle.simulation.proofs.Machine.{Kit, Info, Place, Pools, Instr, NUM, STUCK, Mach, go, upd, sets, lead_one}
+use Rattle.simulation.proofs.Lowering.{Slot, Entry, type_e, code_e, code_es, high_e, high_es, Suf, suf_trans, later, same1, suf_e}
+use Rattle.simulation.proofs.Memory.{Pl, Lay, Lays, Fits, upd_same, upd_other, copied, lay_ext}
+use Rattle.simulation.proofs.Context.{Flying, Ctx, Has, has_this, has_rest, roots_in_dying, locs, awake, with_flying, fly, core_less}
 use Rattle.simulation.specs.Borrows.{add_loc, SteadyE, SteadyEs}
-use Rattle.simulation.proofs.Relation.{Pooling, Names, names_ext, Keep, keep_low, Work, work_none, work_on, work_lower, Rep, Does, by_ok, by_stop, back, does_then, does_need, does_as}
-use Rattle.simulation.proofs.Stand.{Base, Under, base_set, rep_above, rep_unfly, work_above, Stand, FitE, FitEs, types_of, After, EvalSim}
+use Rattle.simulation.proofs.Relation.{Pooling, names_ext, Work, work_none, work_on, Rep, Does, by_ok, back, does_then, does_as}
+use Rattle.simulation.proofs.Stand.{Base, base_set, rep_above, work_above, Stand, FitE, FitEs, types_of, After, EvalSim}
 
 abbrev pub cat : Values → Values → Values
 cat nil_v ws = ws

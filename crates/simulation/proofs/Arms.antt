@@ -1,39 +1,31 @@
 -- match as what is given.
 use mathlib.Core.Path.{◌≡◌, refl, sym, ap, subst, ◌∙◌}
-use mathlib.Core.Bool.{Bool, true, false, ◌&&◌, not}
-use mathlib.Core.List.{List, [], ◌∷◌, ◌++◌, append_assoc}
-use mathlib.Core.Option.{Option, some, none}
-use mathlib.Core.Logic.{◌⊎◌, inl, inr}
-use Prim.Native.Nat.{ℕ, zero, suc, ◌+◌, ◌-◌, ◌*◌, ◌/◌, ◌%◌, ◌≤◌, ◌<◌, max}
+use mathlib.Core.Bool.{Bool, true, false}
+use mathlib.Core.List.{List, ◌∷◌, ◌++◌, append_assoc}
+use mathlib.Core.Option.{Option, some}
+use Prim.Native.Nat.{ℕ, suc, ◌+◌, ◌≤◌}
 use native.Mathlib.Omega.{arith}
-use lib.ListN.{length, drop}
-use lib.Dec.{eqb, ltb, leb, T}
-use Rattle.language.specs.Base.{Lexeme, choose, from_option, if_some, at_place, set_at, same}
-use Rattle.language.specs.Syntax.{Ty, int, dat, box, ref, mut, Access, take, view, edit, Stmt, match_s, Stmts, Alts, no_alts, alt, Body, Tail, give_match, Arms, no_arms, arm, Prog}
-use Rattle.language.specs.Meaning.{Loc, Value, int_v, con_v, box_v, ref_v, hole, Values, nil_v, cons_v, Root, Class, State, Limits, Res, ok, stop, then, need, Name, Env, root_of, with_roots, read_at, write_at, here, words_of, at_path, put_path, nth_v, list_of, refs_to, parts, taken, names_in, roots_in, place_of, Found, find_alt, FoundArm, find_arm, Shape, shape, shape_of, eval, exec, block, by_alt, tails, bodies, by_shape}
-use Rattle.simulation.proofs.Machine.{Kit, Info, Place, Pools, Instr, NUM, PADDR, JTAG, JMP, Mode, running, Mach, Next, go, halt, upd, copy, sets, from_end, does, Leads, leads_on, lead_one}
-use Rattle.simulation.proofs.Lowering.{Slot, Sc, slot_of, slot_at, Entry, share_code, share_ty, part_ty, part_tys, part_code, enter_all, base_of, alt_scope, tag_of, fields_of, code_parts, code_taken, code_open, newer_slots, after_ss, code_ends, code_ss, code_s, code_alts, code_body, code_tail, code_arms, Suf, same1, later, suf_trans, suf_ends, suf_ss, suf_alts, suf_open, suf_body, suf_arms}
-use Rattle.simulation.proofs.Memory.{no_some, some_is, Pl, Lay, Lays, total, Fits, Ext, Live, flag_of, Refers, Owns, Sits, Mem, Kind, eqb_yes, eqb_no, upd_same, upd_other, copied_all, lays_ext, mem_write, own_put, frame_words}
-use Rattle.simulation.proofs.Paths.{field_off, data_laid, DataLaid}
-use Rattle.simulation.proofs.Dying.{hush_put}
-use Rattle.simulation.proofs.Boxes.{boxes, boxes_put}
-use Rattle.simulation.proofs.WordOps.{choose_true, choose_false}
-use Rattle.simulation.proofs.Pointers.{Spot, spot_part, at_spot, spot_reads}
-use Rattle.simulation.proofs.Context.{Flying, Dying, Ctx, Has, has_this, has_rest, roots_in_dying, locs, awake, awake_live, awake_not, with_held, with_flying, fly, fly_spot, Core, core_words, core_put, core_wider, core_unfly}
-use Rattle.simulation.specs.Borrows.{env_roots, TakesClear, SteadyS, SteadyAlt, SteadyBlock, SteadyTail, SteadyArm, SteadyBody}
-use Rattle.simulation.proofs.Relation.{Pooling, pl_of, Names, names_ext, found, Keep, keep_low, Work, work_none, work_on, work_lower, Rep, Does, by_ok, by_stop, back, does_then, does_need, does_as, does_more}
-use Rattle.simulation.proofs.Scopes.{Stack, stack_le, names_on, jump}
-use Rattle.simulation.proofs.Stand.{Base, AllHeld, held_root, Under, Read, reads, Wrote, wrote, rep_above, rep_ctl, rep_unfly, base_set, core_above, work_above, Stand, After, EvalSim}
+use lib.ListN.{length}
+use Rattle.language.specs.Base.{Lexeme, choose, same}
+use Rattle.language.specs.Syntax.{Ty, dat, Access, give_match, Arms, no_arms, arm, Prog}
+use Rattle.language.specs.Meaning.{Value, con_v, ref_v, Values, Class, State, Res, ok, need, Env, root_of, read_at, here, words_of, parts, taken, names_in, roots_in, place_of, FoundArm, find_arm, Shape, shape, shape_of, eval, tails, bodies, by_shape}
+use Rattle.simulation.proofs.Machine.{Kit, Info, Place, Pools, Instr, JMP, Mach, sets}
+use Rattle.simulation.proofs.Lowering.{Slot, Sc, slot_at, Entry, share_code, share_ty, alt_scope, code_open, code_body, code_tail, code_arms, Suf, same1, later, suf_trans, suf_open, suf_body, suf_arms}
+use Rattle.simulation.proofs.Memory.{no_some, some_is, Pl, Lay, Fits}
+use Rattle.simulation.proofs.Pointers.{Spot}
+use Rattle.simulation.proofs.Context.{Ctx, roots_in_dying, locs, awake, with_held, with_flying, fly, fly_spot, Core}
+use Rattle.simulation.specs.Borrows.{env_roots, TakesClear, SteadyTail, SteadyArm, SteadyBody}
+use Rattle.simulation.proofs.Relation.{Pooling, pl_of, names_ext, found, Rep, Does, by_ok, back, does_need, does_as, does_more}
+use Rattle.simulation.proofs.Scopes.{jump}
+use Rattle.simulation.proofs.Stand.{Under, reads, rep_ctl, rep_unfly, base_set, EvalSim}
 use Rattle.simulation.proofs.Expressions.{looked}
-use Rattle.simulation.proofs.Binding.{InSlots, Bound, binds, roots_same}
-use Rattle.simulation.proofs.Opening.{step_to, Fetched, fetch_refs, fetch_words}
-use Rattle.simulation.proofs.Statements.{held_more, seen_ty, Takes, FitS, FitSs, FitAlts, AfterS, AfterEnd, Ready, BlockSim, stand, no_more, jumps}
+use Rattle.simulation.proofs.Statements.{seen_ty, Ready, stand, jumps}
 use Rattle.simulation.proofs.Bodies.{FitBody, FitTail, FitArms, Area, area_on, Given1, BodySim}
 use Rattle.simulation.proofs.Calls.{narrow}
 use Rattle.simulation.proofs.Drops.{Tables}
 use Rattle.simulation.proofs.Scopes.{roots_on}
 use Rattle.simulation.proofs.Bodies.{TailSim}
-use Rattle.simulation.proofs.Matches.{same_eq, seen_is, seen_ref, slot_is, TakeAt, Looking, Opened, opened, tested, looking_ctl, ready_ctl, ready_opened}
+use Rattle.simulation.proofs.Matches.{same_eq, seen_ref, slot_is, Looking, opened, tested, looking_ctl, ready_ctl, ready_opened}
 use Rattle.simulation.proofs.Bodies.{Giving, giving_of, giving_less, giving_on}
 use Rattle.simulation.proofs.Alternatives.{shape_is, takes_of, take_ext, ArmSim}
 

@@ -1,34 +1,30 @@
 -- x = e and *r = e: the new value is in place while the old one is dropped.
 use mathlib.Core.Path.{◌≡◌, refl, sym, ap, subst, ◌∙◌}
-use mathlib.Core.Bool.{Bool, true, false, ◌&&◌, not}
-use mathlib.Core.List.{List, [], ◌∷◌, ◌++◌, append_assoc}
-use mathlib.Core.Option.{Option, some, none}
+use mathlib.Core.Bool.{true}
+use mathlib.Core.List.{List, [], ◌∷◌}
+use mathlib.Core.Option.{Option, some}
 use mathlib.Core.Logic.{◌⊎◌, inl, inr}
-use Prim.Native.Nat.{ℕ, zero, suc, ◌+◌, ◌-◌, ◌*◌, ◌/◌, ◌%◌, ◌≤◌, ◌<◌, max}
+use Prim.Native.Nat.{ℕ, suc, ◌+◌, ◌-◌, ◌≤◌, ◌<◌}
 use native.Mathlib.Omega.{arith}
-use lib.ListN.{length, drop}
-use lib.Dec.{eqb, ltb, leb, T}
-use Rattle.language.specs.Base.{Lexeme, choose, from_option, if_some, at_place, set_at, same}
-use Rattle.language.specs.Syntax.{Ty, int, dat, box, ref, mut, Expr, num, var, op, ctor, boxed, call, share, lend, load, get_e, Stmt, assign, store, Prog}
-use Rattle.language.specs.Checks.{owned}
-use Rattle.language.specs.Meaning.{Loc, Value, int_v, con_v, box_v, ref_v, hole, Values, nil_v, cons_v, Root, Class, State, Limits, Res, ok, stop, then, need, Name, Env, root_of, with_roots, live_root, read_at, write_at, here, kill, loc_of, there, words_of, at_path, put_path, eval, exec, ends, drops}
-use Rattle.simulation.proofs.Machine.{Kit, Info, Place, Pools, Instr, ASSIGN, STORE, END, STUCK, Mode, running, dropping, whole, Mach, Next, go, halt, upd, copy, swap, to_mode, behind, does, whole_step, Runs, Leads, leads_on, lead_one, lead_mode}
-use Rattle.simulation.proofs.Lowering.{Slot, Sc, slot_of, Entry, share_ty, type_e, code_e, high_e, code_ends, code_s, Suf, same1, later, suf_trans, suf_e}
-use Rattle.simulation.proofs.Memory.{no_some, some_is, Pl, At, Lay, Fits, Ext, Live, lives, live, flag_of, Refers, Owns, Sits, Mem, Kind, eqb_yes, upd_same, upd_other, copied, mem_words, mem_write, own_put, Frame, frame_words, frame_less, frame_on}
-use Rattle.simulation.proofs.Dying.{NotIn, hush_put}
+use lib.Dec.{eqb}
+use Rattle.language.specs.Base.{Lexeme, choose, from_option, if_some, set_at}
+use Rattle.language.specs.Syntax.{Ty, dat, mut, Expr, assign, store, Prog}
+use Rattle.language.specs.Meaning.{Loc, Value, int_v, con_v, box_v, ref_v, hole, Values, Root, Class, State, ok, then, Env, root_of, with_roots, read_at, write_at, here, loc_of, there, words_of, put_path, eval, exec, drops}
+use Rattle.simulation.proofs.Machine.{Kit, Info, Place, Pools, Instr, ASSIGN, STORE, STUCK, Mode, running, dropping, Mach, go, upd, copy, swap, to_mode, Leads, lead_one}
+use Rattle.simulation.proofs.Lowering.{Slot, Sc, slot_of, Entry, type_e, code_s, Suf, same1, later, suf_trans, suf_e}
+use Rattle.simulation.proofs.Memory.{some_is, Pl, Lay, Fits, flag_of, Refers, Owns, Mem, upd_same, upd_other, copied, mem_words, mem_write, own_put}
+use Rattle.simulation.proofs.Dying.{hush_put}
 use Rattle.simulation.proofs.Paths.{Goes}
-use Rattle.simulation.proofs.Boxes.{boxes, In, boxes_put, boxes_kill}
-use Rattle.simulation.proofs.WordOps.{if_some_is, choose_true, leb_says, leb_denies, copy_in, copy_under, copy_over, swap_low, swap_high, swap_off, swap_copy}
+use Rattle.simulation.proofs.Boxes.{boxes, boxes_put}
+use Rattle.simulation.proofs.WordOps.{if_some_is, copy_in, copy_under, copy_over, swap_low, swap_high, swap_off, swap_copy}
 use Rattle.simulation.proofs.Pointers.{Spot, Lies, at_spot, spot_reads}
 use Rattle.simulation.proofs.Context.{Flying, Dying, Ctx, Has, has_this, has_rest, roots_in_dying, locs, awake, awake_live, awake_not, with_flying, fly, Unseen, Core, core_words, core_put, core_unfly}
-use Rattle.simulation.proofs.Changes.{core_end, gone_root}
-use Rattle.simulation.specs.Borrows.{SteadyEnds, SteadyDrop, SteadyS}
-use Rattle.simulation.proofs.Relation.{Pooling, pl_of, Names, no_names, one_name, names_ext, Found, found, Keep, keep_low, keep_wide, Work, work_none, work_on, work_lower, Rep, Does, by_ok, by_stop, back, does_then, does_need, does_as}
-use Rattle.simulation.proofs.Scopes.{Stack, stack_le}
-use Rattle.simulation.proofs.Stand.{Base, AllHeld, held_root, Under, Read, reads, Wrote, wrote, loc_is, not_ref, rep_unfly, Stand, FitE, After, EvalSim}
-use Rattle.simulation.proofs.Statements.{FitS, AfterS, AfterEnd, Ready, EndsSim, stand, no_more}
-use Rattle.simulation.proofs.Drops.{SameBut, Dropped, AfterDrop, Handed, Dropping, DropSim}
-use Rattle.simulation.proofs.Stores.{flag_or, there_is, WroteAt, wrote_at, put_no, size_high, rests, drop_below, by_hole}
+use Rattle.simulation.specs.Borrows.{SteadyDrop, SteadyS}
+use Rattle.simulation.proofs.Relation.{Pooling, pl_of, names_ext, Found, found, keep_low, Work, work_on, Rep, Does, by_ok, back, does_then, does_need, does_as}
+use Rattle.simulation.proofs.Stand.{Base, held_root, Under, reads, wrote, loc_is, not_ref, rep_unfly, After, EvalSim}
+use Rattle.simulation.proofs.Statements.{FitS, AfterS, Ready, stand, no_more}
+use Rattle.simulation.proofs.Drops.{Handed, DropSim}
+use Rattle.simulation.proofs.Stores.{flag_or, there_is, wrote_at, put_no, size_high, rests, drop_below, by_hole}
 
 module _ (K : Kit) (F : Fits K) (P : Pools → (ℕ → ℕ) → List Class → List Place → Type 0) (Q : Pooling K P) (code : List Instr) (fns : Lexeme → Option Entry) (q : Prog) (dw : (k : Lexeme) (vs : Values) (i : Info) → K.info k ≡ some i → words_of q (con_v k vs) ≡ K.size (dat i.home)) where
   goes_ref : (q1 : List ℕ) (v : Value) (t : Ty) (o : ℕ) (u : Ty) (x : Value) (k : Loc) → Goes K q1 v t o u x → v ≡ ref_v k → (q1 ≡ []) ⊎ ⊥

@@ -1,27 +1,26 @@
 -- Values that lie in their slots get names: parameters, and the parts of what is matched.
 use mathlib.Core.Path.{◌≡◌, refl, sym, ap, subst, ◌∙◌}
-use mathlib.Core.Bool.{Bool, true, false, ◌&&◌, not}
-use mathlib.Core.List.{List, [], ◌∷◌, ◌++◌, append_assoc}
-use mathlib.Core.Option.{Option, some, none}
+use mathlib.Core.Bool.{true}
+use mathlib.Core.List.{List, [], ◌∷◌, ◌++◌}
+use mathlib.Core.Option.{Option, some}
 use mathlib.Core.Logic.{◌⊎◌, inl, inr}
-use Prim.Native.Nat.{ℕ, zero, suc, ◌+◌, ◌-◌, ◌*◌, ◌/◌, ◌%◌, ◌≤◌, ◌<◌, max}
+use Prim.Native.Nat.{ℕ, ◌+◌, ◌≤◌, ◌<◌}
 use native.Mathlib.Omega.{arith}
-use lib.ListN.{length, drop}
-use lib.Dec.{eqb, ltb, leb, T}
-use Rattle.language.specs.Base.{Lexeme, choose, from_option, if_some, at_place, set_at, same}
-use Rattle.language.specs.Syntax.{Ty, int, dat, box, ref, mut}
-use Rattle.language.specs.Meaning.{Loc, Value, int_v, con_v, box_v, ref_v, hole, Root, State, Name, Env, with_roots, adds_root, names_in, roots_in}
-use Rattle.simulation.proofs.Machine.{Kit, Place}
+use lib.ListN.{length}
+use Rattle.language.specs.Base.{Lexeme, at_place}
+use Rattle.language.specs.Syntax.{Ty}
+use Rattle.language.specs.Meaning.{Loc, Value, ref_v, Root, State, Name, Env, with_roots, adds_root, names_in, roots_in}
+use Rattle.simulation.proofs.Machine.{Kit}
 use Rattle.simulation.proofs.Lowering.{Slot, Sc, Entry, enter, enter_all}
-use Rattle.simulation.proofs.Memory.{no_some, some_is, at_end, at_old, Pl, Lay, Fits, Ext, Live, flag_of, Refers, Owns, Sits, Mem, Kind, lay_ext, ext_more, own_more}
+use Rattle.simulation.proofs.Memory.{no_some, some_is, at_end, at_old, Pl, Lay, Fits, Ext, flag_of, Refers, Owns, lay_ext, ext_more, own_more}
 use Rattle.simulation.proofs.Dying.{hush_length, hush_more}
-use Rattle.simulation.proofs.Boxes.{boxes, In, boxes_name}
+use Rattle.simulation.proofs.Boxes.{boxes, boxes_name}
 use Rattle.simulation.proofs.Pointers.{Spot}
-use Rattle.simulation.proofs.Context.{Flying, Dying, Ctx, Has, has_this, has_rest, roots_in_dying, awake, with_held, Core, dying_below}
+use Rattle.simulation.proofs.Context.{Flying, Ctx, Has, roots_in_dying, awake, with_held, Core, dying_below}
 use Rattle.simulation.proofs.Changes.{core_add}
 use Rattle.simulation.specs.Borrows.{env_roots}
-use Rattle.simulation.proofs.Relation.{pl_of, Names, no_names, one_name, names_ext}
-use Rattle.simulation.proofs.Scopes.{Stack, stack_on, names_on, roots_on}
+use Rattle.simulation.proofs.Relation.{pl_of, Names, no_names, one_name}
+use Rattle.simulation.proofs.Scopes.{Stack, stack_on, names_on}
 
 -- one value in its slot: its flag is up, and if it's a reference it's right
 pub record InSlot (K : Kit) (L : List Pl) (ws : List Root) (w : ℕ → ℕ) (d : ℕ) (t : Ty) (v : Value) : Type 0 where

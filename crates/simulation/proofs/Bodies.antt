@@ -1,30 +1,29 @@
 -- Bodies and what they give: the value goes to the frame's result area, then the names end.
 use mathlib.Core.Path.{◌≡◌, refl, sym, ap, subst, ◌∙◌}
-use mathlib.Core.Bool.{Bool, true, false, ◌&&◌, not}
+use mathlib.Core.Bool.{Bool, true, false}
 use mathlib.Core.List.{List, [], ◌∷◌, ◌++◌, append_assoc}
-use mathlib.Core.Option.{Option, some, none}
-use mathlib.Core.Logic.{◌⊎◌, inl, inr}
-use Prim.Native.Nat.{ℕ, zero, suc, ◌+◌, ◌-◌, ◌*◌, ◌/◌, ◌%◌, ◌≤◌, ◌<◌, max}
+use mathlib.Core.Option.{Option, some}
+use mathlib.Core.Logic.{inl}
+use Prim.Native.Nat.{ℕ, suc, ◌+◌, ◌≤◌, ◌<◌}
 use native.Mathlib.Omega.{arith}
-use lib.ListN.{length, drop}
-use lib.Dec.{eqb, ltb, leb, T}
-use Rattle.language.specs.Base.{Lexeme, choose, from_option, if_some, at_place, set_at, same}
-use Rattle.language.specs.Syntax.{Ty, int, dat, box, ref, mut, Expr, Access, Stmts, Body, body, Tail, give, give_cond, give_match, Arms, no_arms, arm, Fn, Prog}
-use Rattle.language.specs.Checks.{fn_named, types_of_pars}
-use Rattle.language.specs.Meaning.{Loc, Value, int_v, con_v, box_v, ref_v, hole, Values, nil_v, cons_v, Root, Class, State, Limits, Res, ok, stop, then, need, Name, Env, newer, words_of, num_of, frame, Shape, eval, execs, ends, bodies, tails, by_shape}
-use Rattle.simulation.proofs.Machine.{Kit, Info, Place, Pools, Instr, JZ, JMP, RESULT, RETURN, Mode, running, Mach, Next, go, halt, upd, copy, sets, from_end, does, Runs, Leads, leads_on, lead_one}
-use Rattle.simulation.proofs.Lowering.{Slot, Sc, slot_of, Entry, type_e, code_e, high_e, after_ss, code_ends, newer_slots, alt_scope, code_ss, code_body, code_tail, code_fn, pars_scope, Suf, same1, later, suf_trans, suf_e, suf_ends, suf_ss, suf_body, suf_tail}
+use lib.ListN.{length}
+use lib.Dec.{eqb}
+use Rattle.language.specs.Base.{Lexeme, choose}
+use Rattle.language.specs.Syntax.{Ty, dat, Expr, Access, Body, body, Tail, give, give_cond, Arms, Prog}
+use Rattle.language.specs.Meaning.{Loc, Value, con_v, Values, Root, Class, State, Env, newer, words_of, num_of, eval, execs, ends, bodies, tails}
+use Rattle.simulation.proofs.Machine.{Kit, Info, Place, Pools, Instr, JZ, JMP, RESULT, Mach, go, copy, sets, from_end, lead_one}
+use Rattle.simulation.proofs.Lowering.{Slot, Sc, Entry, type_e, after_ss, code_ends, newer_slots, code_body, code_tail, Suf, same1, later, suf_trans, suf_e, suf_ss, suf_body, suf_tail}
 use Rattle.simulation.proofs.Memory.{no_some, some_is, Pl, Lay, Fits, Ext, Live, flag_of, Refers, Owns, Mem, copied, Frame, frame_words, frame_free, frame_less, frame_on}
 use Rattle.simulation.proofs.Boxes.{boxes}
-use Rattle.simulation.proofs.WordOps.{copy_in, copy_under, copy_off}
-use Rattle.simulation.proofs.Pointers.{Spot, spot_word}
-use Rattle.simulation.proofs.Context.{Flying, Dying, Ctx, Has, has_this, has_rest, has_front, roots_in_dying, locs, awake, with_held, with_flying, fly, fly_spot, Core, core_less, core_words, core_fly, core_unfly}
-use Rattle.simulation.specs.Borrows.{env_roots, add_loc, SteadyE, SteadySs, SteadyBody, SteadyTail, SteadyArm, SteadyEnds}
+use Rattle.simulation.proofs.WordOps.{copy_in, copy_off}
+use Rattle.simulation.proofs.Pointers.{spot_word}
+use Rattle.simulation.proofs.Context.{Dying, Ctx, has_front, roots_in_dying, locs, awake, with_held, with_flying, fly, fly_spot, Core, core_less, core_words, core_fly, core_unfly}
+use Rattle.simulation.specs.Borrows.{env_roots, add_loc, SteadyBody, SteadyTail, SteadyEnds}
 use Rattle.simulation.proofs.Relation.{Pooling, Names, names_ext, Keep, keep_low, keep_wide, Work, work_none, work_on, work_lower, Rep, Does, by_ok, by_stop, back, does_then, does_need, does_as, does_more}
 use Rattle.simulation.proofs.Scopes.{Stack, stack_on, stack_le, names_on, newer_on, newer_slots_on, jump, roots_on}
-use Rattle.simulation.proofs.Stand.{Base, AllHeld, Under, rep_ctl, rep_unfly, base_set, Stand, FitE, After, EvalSim}
+use Rattle.simulation.proofs.Stand.{Base, Under, rep_ctl, rep_unfly, base_set, EvalSim}
 use Rattle.simulation.proofs.Arguments.{fly_locs, fly_under}
-use Rattle.simulation.proofs.Statements.{held_more, seen_ty, Takes, FitSs, AfterS, AfterEnd, Ready, ExecsSim, EndsSim, stand, jumps, test_zero, int_word}
+use Rattle.simulation.proofs.Statements.{AfterEnd, Ready, ExecsSim, EndsSim, stand, jumps, test_zero, int_word}
 use Rattle.simulation.proofs.Flow.{ready_on}
 
 module _ (K : Kit) (F : Fits K) (P : Pools → (ℕ → ℕ) → List Class → List Place → Type 0) (Q : Pooling K P) (code : List Instr) (fns : Lexeme → Option Entry) (q : Prog) (dw : (k : Lexeme) (vs : Values) (i : Info) → K.info k ≡ some i → words_of q (con_v k vs) ≡ K.size (dat i.home)) where

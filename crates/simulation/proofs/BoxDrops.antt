@@ -1,30 +1,28 @@
 -- A box is dropped: a record goes on what's under way, what's in it is dropped, its place is given back. One value's drop.
 use mathlib.Core.Path.{◌≡◌, refl, sym, ap, subst, ◌∙◌}
-use mathlib.Core.Bool.{Bool, true, false, ◌&&◌, not}
-use mathlib.Core.List.{List, [], ◌∷◌, ◌++◌, append_assoc}
-use mathlib.Core.Option.{Option, some, none}
+use mathlib.Core.Bool.{Bool, true, false, not}
+use mathlib.Core.List.{List, [], ◌∷◌, ◌++◌}
+use mathlib.Core.Option.{Option, some}
 use mathlib.Core.Logic.{◌⊎◌, inl, inr}
-use Prim.Native.Nat.{ℕ, zero, suc, ◌+◌, ◌-◌, ◌*◌, ◌/◌, ◌%◌, ◌≤◌, ◌<◌, max}
+use Prim.Native.Nat.{ℕ, suc, ◌+◌, ◌-◌, ◌≤◌, ◌<◌}
 use native.Mathlib.Omega.{arith}
-use lib.ListN.{length, drop}
-use lib.Dec.{eqb, ltb, leb, T}
-use Rattle.language.specs.Base.{Lexeme, choose, from_option, if_some, at_place, set_at, same}
-use Rattle.language.specs.Syntax.{Ty, int, dat, box, ref, mut, Fn, Prog}
-use Rattle.language.specs.Checks.{fn_named, home_of, Home, types_of_pars}
-use Rattle.language.specs.Meaning.{Loc, Value, int_v, con_v, box_v, ref_v, hole, Values, nil_v, cons_v, Root, Class, State, Limits, Stop, no_stack, Res, ok, stop, then, need, goes_under, with_under, with_roots, with_classes, live_root, read_at, here, kill, ends_box, count_out, words_of, at_path, eval, drops, drops_all, parts_of, lasts}
+use lib.ListN.{length}
+use lib.Dec.{eqb, leb, T}
+use Rattle.language.specs.Base.{Lexeme, from_option, at_place, set_at}
+use Rattle.language.specs.Syntax.{Ty, int, dat, box, ref, mut, Prog}
+use Rattle.language.specs.Checks.{fn_named, home_of}
+use Rattle.language.specs.Meaning.{Value, int_v, con_v, box_v, ref_v, hole, Values, Root, Class, State, no_stack, ok, then, goes_under, with_under, with_roots, with_classes, live_root, read_at, here, ends_box, count_out, words_of, at_path, eval, drops}
 use Rattle.simulation.proofs.Machine.{Kit, Info, Ent, Place, Pools, Instr, RESUME, Mode, running, dropping, tagged, fields, whole, Mach, Next, go, halt, stopped, upd, to_mode, pushed, popped, behind, from_end, does, drop_step, tagged_step, fields_step, whole_step, mode_step, Runs, Leads, leads_on, lead_mode, halt_mode}
-use Rattle.simulation.proofs.Lowering.{Slot, Entry, Suf}
+use Rattle.simulation.proofs.Lowering.{Entry}
 use Rattle.simulation.proofs.Memory.{no_some, some_is, Pl, At, Lay, Lays, total, Fits, Ext, Live, lives, live, flag_of, Refers, Owns, Sits, Mem, Kind, eqb_yes, eqb_no, upd_same, upd_other, copied, copied_all, lay_ext, lays_ext, at_put_same, Frame, frame_none, frame_words, frame_less, frame_on, frame_free}
-use Rattle.simulation.proofs.Paths.{DataLaid, data_laid}
 use Rattle.simulation.proofs.Dying.{NotIn, quiet, hush, live_hush, quiet_live, owns_fewer, hush_put}
-use Rattle.simulation.proofs.Boxes.{boxes, In, Among, among}
-use Rattle.simulation.proofs.WordOps.{if_some_is, choose_true, choose_false, leb_says}
-use Rattle.simulation.proofs.Context.{Flying, Dying, Ctx, Has, has_this, has_rest, roots_in_dying, locs, awake, awake_live, awake_not, with_dying, Unseen, Dead, Core, core_words}
+use Rattle.simulation.proofs.Boxes.{boxes, among}
+use Rattle.simulation.proofs.WordOps.{if_some_is, choose_true, choose_false}
+use Rattle.simulation.proofs.Context.{Dying, Ctx, has_this, has_rest, roots_in_dying, locs, awake, with_dying, Core, core_words}
 use Rattle.simulation.proofs.Changes.{core_dying, core_dropped, gone_root}
-use Rattle.simulation.specs.Borrows.{SteadyDrop, SteadyDrops, SteadyParts, SteadyLast}
-use Rattle.simulation.proofs.Relation.{Pooling, Keep, keep_low, keep_wide, Work, Rep, Does, by_ok, by_stop, back, does_then, does_need, does_choose, does_as}
-use Rattle.simulation.proofs.Stand.{Under}
-use Rattle.simulation.proofs.Drops.{LastFn, Tables, SameBut, Dropped, AfterDrop, Handed, Dropping, DropSim, FieldsSim, PartsSim, LastSim, at_once, sim_tagged}
+use Rattle.simulation.specs.Borrows.{SteadyDrop}
+use Rattle.simulation.proofs.Relation.{Pooling, Keep, keep_low, Rep, Does, by_ok, by_stop, back, does_then, does_need, does_choose, does_as}
+use Rattle.simulation.proofs.Drops.{Tables, Dropped, AfterDrop, Handed, Dropping, DropSim, FieldsSim, LastSim, at_once, sim_tagged}
 
 module _ (K : Kit) (F : Fits K) (P : Pools → (ℕ → ℕ) → List Class → List Place → Type 0) (Q : Pooling K P) (code : List Instr) (fns : Lexeme → Option Entry) (q : Prog) (dw : (k : Lexeme) (vs : Values) (i : Info) → K.info k ≡ some i → words_of q (con_v k vs) ≡ K.size (dat i.home)) where
   ends_is : (z : State) (r : ℕ) (x : Root) → Live z.roots r x → ends_box z r ≡ with_classes (with_roots z (set_at z.roots r (gone_root K F x.words))) (count_out z.classes x.words)

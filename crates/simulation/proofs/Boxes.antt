@@ -2,18 +2,16 @@
 use mathlib.Core.Path.{◌≡◌, refl, sym, ap, subst, ◌∙◌}
 use mathlib.Core.Bool.{Bool, true, false, ◌&&◌, not}
 use mathlib.Core.List.{List, [], ◌∷◌, ◌++◌}
-use mathlib.Core.Option.{Option, some, none}
-use mathlib.Core.Logic.{◌⊎◌, inl, inr}
-use Prim.Native.Nat.{ℕ, zero, suc, ◌+◌, ◌-◌, ◌*◌, ◌≤◌, ◌<◌}
+use mathlib.Core.Option.{some}
+use Prim.Native.Nat.{ℕ, zero, suc, ◌+◌, ◌≤◌, ◌<◌}
 use native.Mathlib.Omega.{arith}
-use lib.ListN.{length, drop}
-use lib.Dec.{eqb, ltb, leb, T, eqb→eq, eqb_refl, leb→le, le→leb, nleb→lt, eqb-suc-zero}
-use Rattle.language.specs.Base.{Lexeme, choose, from_option, if_some, at_place, set_at, same}
-use Rattle.language.specs.Syntax.{Ty, int, dat, box, ref, mut, Prog}
-use Rattle.language.specs.Meaning.{Loc, Value, int_v, con_v, box_v, ref_v, hole, Values, nil_v, cons_v, Root, Class, State}
+use lib.ListN.{length}
+use lib.Dec.{eqb, eqb-suc-zero}
+use Rattle.language.specs.Base.{choose, at_place, set_at}
+use Rattle.language.specs.Meaning.{hole, Root}
 pub use Rattle.simulation.specs.Pooling.{In, in_this, in_rest}
-use Rattle.simulation.proofs.Machine.{Kit, Place}
-use Rattle.simulation.proofs.Memory.{no_some, some_is, Pl, Live, Owns, Sits, Mem, Kind}
+use Rattle.simulation.proofs.Machine.{Place}
+use Rattle.simulation.proofs.Memory.{no_some, some_is, Pl, Live}
 
 -- the places of boxes
 abbrev pub boxes : List Root → List Pl → List Place

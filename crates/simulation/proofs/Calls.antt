@@ -1,33 +1,32 @@
 -- Calls: a frame is entered, with the arguments as parameters; the body; RETURN.
 use mathlib.Core.Path.{◌≡◌, refl, sym, ap, subst, ◌∙◌}
-use mathlib.Core.Bool.{Bool, true, false, ◌&&◌, not}
-use mathlib.Core.List.{List, [], ◌∷◌, ◌++◌, append_assoc}
-use mathlib.Core.Option.{Option, some, none}
+use mathlib.Core.List.{List, [], ◌∷◌, ◌++◌}
+use mathlib.Core.Option.{Option, some}
 use mathlib.Core.Logic.{◌⊎◌, inl, inr}
-use Prim.Native.Nat.{ℕ, zero, suc, ◌+◌, ◌-◌, ◌*◌, ◌/◌, ◌%◌, ◌≤◌, ◌<◌, max}
+use Prim.Native.Nat.{ℕ, suc, ◌+◌, ◌-◌, ◌≤◌, ◌<◌}
 use native.Mathlib.Omega.{arith}
-use lib.ListN.{length, drop}
-use lib.Dec.{eqb, ltb, leb, T}
-use Rattle.language.specs.Base.{Lexeme, choose, from_option, if_some, at_place, set_at, same}
-use Rattle.language.specs.Syntax.{Ty, int, dat, box, ref, mut, Expr, call, Exprs, nil_e, cons_e, Body, Fn, Prog}
+use lib.ListN.{length}
+use lib.Dec.{ltb, leb}
+use Rattle.language.specs.Base.{Lexeme, from_option}
+use Rattle.language.specs.Syntax.{Ty, int, dat, call, Exprs, nil_e, cons_e, Fn, Prog}
 use Rattle.language.specs.Checks.{fn_named, types_of_pars}
-use Rattle.language.specs.Meaning.{Loc, Value, int_v, con_v, box_v, ref_v, hole, Values, nil_v, cons_v, list_of, Root, Class, State, Limits, Stop, no_stack, no_turns, Res, ok, stop, then, need, turn, goes_under, with_under, with_roots, Name, Env, names_of, names_in, roots_in, words_of, frame, eval, evals, calls, bodies}
-use Rattle.simulation.proofs.Machine.{Kit, Info, Place, Pools, Instr, CALL, RETURN, STUCK, Mode, running, Mach, Next, go, halt, Outcome, stopped, upd, copy, header, passed, entered, enters, left, from_end, does, Runs, Leads, leads_on, lead_one, halt_one}
-use Rattle.simulation.proofs.Lowering.{Slot, Sc, slot_of, Entry, type_e, code_e, code_es, high_e, high_es, first_scope, pars_scope, code_body, code_fn, Suf, same1, later, suf_trans, suf_es}
+use Rattle.language.specs.Meaning.{Value, con_v, Values, nil_v, list_of, Root, Class, State, no_stack, no_turns, Res, need, turn, goes_under, with_under, Env, names_of, names_in, roots_in, words_of, frame, eval, evals, calls, bodies}
+use Rattle.simulation.proofs.Machine.{Kit, Info, Place, Pools, Instr, CALL, RETURN, STUCK, running, Mach, go, halt, Outcome, stopped, upd, copy, header, entered, enters, from_end, Runs, Leads, lead_one, halt_one}
+use Rattle.simulation.proofs.Lowering.{Slot, Sc, Entry, type_e, code_e, high_e, high_es, first_scope, pars_scope, Suf, same1, later, suf_trans, suf_es}
 use Rattle.simulation.proofs.Memory.{no_some, some_is, Pl, Lay, Lays, total, Fits, Ext, Live, flag_of, Refers, Owns, Mem, upd_same, upd_other, copied, copied_all}
 use Rattle.simulation.proofs.Boxes.{boxes}
 use Rattle.simulation.proofs.WordOps.{copy_in, copy_under, copy_off, choose_true, choose_false}
-use Rattle.simulation.proofs.Pointers.{Spot, spot_word}
-use Rattle.simulation.proofs.Context.{Flying, Dying, Ctx, Has, has_this, has_rest, roots_in_dying, locs, awake, with_held, with_flying, fly, fly_spot, Core, core_less, core_words, core_wider, core_fly, core_unfly}
+use Rattle.simulation.proofs.Pointers.{spot_word}
+use Rattle.simulation.proofs.Context.{Ctx, roots_in_dying, locs, awake, with_held, with_flying, fly, fly_spot, Core, core_less, core_wider, core_fly, core_unfly}
 use Rattle.simulation.specs.Borrows.{env_roots, turned_state, SteadyE, SteadyCalls, SteadyBody}
 use Rattle.simulation.proofs.Relation.{Pooling, Names, names_ext, Keep, keep_low, keep_wide, Work, work_none, work_on, work_lower, Rep, Does, by_ok, by_stop, back, does_then, does_need, does_choose, does_as}
 use Rattle.simulation.proofs.Scopes.{jump}
-use Rattle.simulation.proofs.Stand.{Base, AllHeld, Under, core_above, Stand, FitE, types_of, After, EvalSim, after_on}
-use Rattle.simulation.proofs.Arguments.{flies, has_flies, AfterEs, EvalsSim}
-use Rattle.simulation.proofs.Binding.{InSlots, Bound, binds, roots_same}
+use Rattle.simulation.proofs.Stand.{Base, AllHeld, Under, core_above, Stand, FitE, types_of, After, after_on}
+use Rattle.simulation.proofs.Arguments.{has_flies, AfterEs, EvalsSim}
+use Rattle.simulation.proofs.Binding.{InSlots, binds, roots_same}
 use Rattle.simulation.proofs.Passing.{ArgSpots, flies_spots, spots_words, passed_under, passed_slots}
 use Rattle.simulation.proofs.Statements.{held_more, Ready}
-use Rattle.simulation.proofs.Bodies.{FitBody, Area, Given1, BodySim}
+use Rattle.simulation.proofs.Bodies.{Area, BodySim}
 
 app_nil : {A : Type 0} (xs : List A) → xs ++ [] ≡ xs
 app_nil [] = refl

@@ -1,23 +1,22 @@
 -- What becomes of memory in a context when a root comes, ends, begins to be dropped.
 use mathlib.Core.Path.{◌≡◌, refl, sym, ap, subst, ◌∙◌}
-use mathlib.Core.Bool.{Bool, true, false, ◌&&◌, not}
+use mathlib.Core.Bool.{Bool, true, false, not}
 use mathlib.Core.List.{List, [], ◌∷◌, ◌++◌}
-use mathlib.Core.Option.{Option, some, none}
+use mathlib.Core.Option.{some}
 use mathlib.Core.Logic.{◌⊎◌, inl, inr}
-use Prim.Native.Nat.{ℕ, zero, suc, ◌+◌, ◌≤◌, ◌<◌}
+use Prim.Native.Nat.{ℕ, ◌+◌, ◌≤◌, ◌<◌}
 use native.Mathlib.Omega.{arith}
 use lib.ListN.{length}
-use lib.Dec.{T, eqb}
-use Rattle.language.specs.Base.{Lexeme, choose, if_some, at_place, set_at}
-use Rattle.language.specs.Syntax.{Ty, int, dat, box, ref, mut}
-use Rattle.language.specs.Meaning.{Loc, Value, int_v, con_v, box_v, ref_v, hole, Values, Root, State, put_path}
+use lib.Dec.{T}
+use Rattle.language.specs.Base.{at_place, set_at}
+use Rattle.language.specs.Syntax.{Ty}
+use Rattle.language.specs.Meaning.{Loc, ref_v, hole, Root}
 use Rattle.simulation.proofs.Machine.{Kit, Place}
-use Rattle.simulation.proofs.Memory.{no_some, some_is, same_or, at_put_same, at_put_other, at_old, at_more, put_length, more_length, Pl, At, Lay, Fits, Ext, Live, flag_of, Refers, Owns, Sits, Mem, Kind, mem_words, mem_write, mem_add, lay_ext, own_put, own_more, ext_more}
-use Rattle.simulation.proofs.Paths.{Goes, Inside}
-use Rattle.simulation.proofs.Dying.{quiet, hush, NotIn, BelowAll, hush_length, hush_put, hush_more, hush_live, live_hush, quiet_live, quiet_length, quiet_at, owns_fewer, mem_fewer}
-use Rattle.simulation.proofs.Pointers.{Spot, spot_word, spot_put}
-use Rattle.simulation.proofs.Boxes.{boxes, In, in_front, in_boxes, in_apart, among}
-use Rattle.simulation.proofs.Context.{Flying, Dying, Ctx, Has, has_this, has_rest, roots_in_dying, locs, has_loc, awake, with_held, with_dying, Clear, Unseen, Dead, Core, awake_not, awake_live, not_has, short, dying_below, owns_first, spot_ws, in_added}
+use Rattle.simulation.proofs.Memory.{some_is, same_or, at_put_same, at_put_other, at_old, at_more, put_length, Pl, Fits, Live, Refers, Owns, Sits, Mem, Kind, mem_words, mem_add, own_put, own_more}
+use Rattle.simulation.proofs.Dying.{quiet, NotIn, hush_length, hush_put, hush_more, live_hush, quiet_live, quiet_length, quiet_at, owns_fewer, mem_fewer}
+use Rattle.simulation.proofs.Pointers.{Spot}
+use Rattle.simulation.proofs.Boxes.{boxes, In, in_apart, among}
+use Rattle.simulation.proofs.Context.{Flying, Dying, Ctx, Has, has_this, has_rest, roots_in_dying, locs, has_loc, awake, with_held, with_dying, Unseen, Dead, Core, awake_not, awake_live, not_has, short, dying_below, owns_first, spot_ws, in_added}
 
 no_bool : false ≡ true → ⊥
 no_bool e = subst (λ (z : Bool). T (not z)) e tt

@@ -3,20 +3,19 @@
 use mathlib.Core.Path.{◌≡◌, refl, sym, ap, subst, ◌∙◌}
 use mathlib.Core.Bool.{Bool, true, false, ◌&&◌, not}
 use mathlib.Core.List.{List, [], ◌∷◌, ◌++◌}
-use mathlib.Core.Option.{Option, some, none}
+use mathlib.Core.Option.{some}
 use mathlib.Core.Logic.{◌⊎◌, inl, inr}
 use Prim.Native.Nat.{ℕ, zero, suc, ◌+◌, ◌≤◌, ◌<◌}
 use native.Mathlib.Omega.{arith}
 use lib.ListN.{length}
-use lib.Dec.{T, eqb}
-use Rattle.language.specs.Base.{Lexeme, choose, if_some, at_place, set_at}
+use lib.Dec.{eqb}
+use Rattle.language.specs.Base.{choose, at_place, set_at}
 use Rattle.language.specs.Syntax.{Ty, int, dat, box, ref, mut}
-use Rattle.language.specs.Meaning.{Loc, Value, int_v, con_v, box_v, ref_v, hole, Values, Root, State, put_path}
+use Rattle.language.specs.Meaning.{Loc, Value, int_v, con_v, box_v, ref_v, hole, Root, put_path}
 pub use Rattle.simulation.specs.Borrows.{Has, has_this, has_rest, Clear, Unseen}
 use Rattle.simulation.proofs.Machine.{Kit, Place}
 use Rattle.simulation.proofs.Memory.{no_some, some_is, same_or, at_put_same, at_put_other, at_old, at_more, put_length, more_length, Pl, At, Lay, Fits, Ext, Live, flag_of, Refers, Owns, Sits, Mem, Kind, mem_words, mem_write, mem_add, own_put, own_more, ext_more}
-use Rattle.simulation.proofs.Paths.{Goes, Inside}
-use Rattle.simulation.proofs.Dying.{quiet, hush, NotIn, BelowAll, hush_length, hush_put, hush_more, hush_live, live_hush, quiet_live, quiet_length, owns_fewer, mem_fewer}
+use Rattle.simulation.proofs.Dying.{hush, NotIn, BelowAll, hush_put, hush_live, quiet_live}
 use Rattle.simulation.proofs.Pointers.{Spot, spot_word, spot_put}
 use Rattle.simulation.proofs.Boxes.{boxes, In, in_front, in_boxes}
 

@@ -1,29 +1,24 @@
 -- Values are dropped: the statements; fields one after the other, with the way back in the dead tag; boxes.
 use mathlib.Core.Path.{◌≡◌, refl, sym, ap, subst, ◌∙◌}
-use mathlib.Core.Bool.{Bool, true, false, ◌&&◌, not}
-use mathlib.Core.List.{List, [], ◌∷◌, ◌++◌, append_assoc}
+use mathlib.Core.List.{List, [], ◌∷◌}
 use mathlib.Core.Option.{Option, some, none}
-use mathlib.Core.Logic.{◌⊎◌, inl, inr}
-use Prim.Native.Nat.{ℕ, zero, suc, ◌+◌, ◌-◌, ◌*◌, ◌/◌, ◌%◌, ◌≤◌, ◌<◌, max}
+use mathlib.Core.Logic.{inl, inr}
+use Prim.Native.Nat.{ℕ, suc, ◌+◌, ◌-◌, ◌≤◌, ◌<◌}
 use native.Mathlib.Omega.{arith}
-use lib.ListN.{length, drop}
-use lib.Dec.{eqb, ltb, leb, T}
-use Rattle.language.specs.Base.{Lexeme, choose, from_option, if_some, at_place, set_at, same}
+use lib.Dec.{eqb}
+use Rattle.language.specs.Base.{Lexeme, from_option}
 use Rattle.language.specs.Syntax.{Ty, int, dat, box, ref, mut, Fn, Prog}
-use Rattle.language.specs.Checks.{owned, fn_named, home_of, Home, types_of_pars}
-use Rattle.language.specs.Meaning.{Loc, Value, int_v, con_v, box_v, ref_v, hole, Values, nil_v, cons_v, Root, Class, State, Limits, Stop, no_stack, Res, ok, stop, then, need, goes_under, with_under, with_roots, with_classes, live_root, read_at, here, kill, ends_box, count_out, words_of, at_path, eval, drops, drops_all, parts_of, lasts}
+use Rattle.language.specs.Checks.{fn_named}
+use Rattle.language.specs.Meaning.{Value, int_v, con_v, box_v, ref_v, hole, Values, nil_v, cons_v, Root, Class, State, ok, words_of, eval, drops, drops_all, parts_of, lasts}
 pub use Rattle.simulation.specs.Fitting.{Run, AllOwned}
-use Rattle.simulation.proofs.Machine.{Kit, Info, Ent, Place, Pools, Instr, RESUME, Mode, running, dropping, tagged, fields, whole, Mach, Next, go, halt, stopped, upd, to_mode, pushed, popped, behind, from_end, does, drop_step, tagged_step, fields_step, whole_step, mode_step, Runs, Leads, leads_on, lead_mode, halt_mode}
-use Rattle.simulation.proofs.Lowering.{Slot, Entry, Suf}
-use Rattle.simulation.proofs.Memory.{no_some, some_is, Pl, At, Lay, Lays, total, Fits, Ext, Live, lives, live, flag_of, Refers, Owns, Sits, Mem, Kind, eqb_yes, eqb_no, upd_same, upd_other, copied, copied_all, lay_ext, lays_ext, at_put_same, Frame, frame_none, frame_words, frame_less, frame_on, frame_free}
-use Rattle.simulation.proofs.Paths.{DataLaid, data_laid}
-use Rattle.simulation.proofs.Dying.{NotIn, quiet, hush, live_hush, quiet_live, owns_fewer, hush_put}
+use Rattle.simulation.proofs.Machine.{Kit, Info, Ent, Place, Pools, Instr, Mode, dropping, tagged, fields, whole, Mach, go, upd, to_mode, behind, drop_step, lead_mode}
+use Rattle.simulation.proofs.Lowering.{Entry, Suf}
+use Rattle.simulation.proofs.Memory.{Pl, Lay, Lays, total, Fits, flag_of, Owns, eqb_no, upd_same, upd_other, copied_all, lays_ext, Frame, frame_none, frame_words, frame_less, frame_on, frame_free}
 use Rattle.simulation.proofs.Boxes.{boxes, In, Among, among}
-use Rattle.simulation.proofs.WordOps.{if_some_is, choose_true, choose_false, leb_says}
-use Rattle.simulation.proofs.Context.{Flying, Dying, Ctx, Has, has_this, has_rest, roots_in_dying, locs, awake, awake_live, awake_not, with_dying, Unseen, Dead, Core, core_words}
-use Rattle.simulation.proofs.Changes.{core_dying, core_dropped, gone_root}
+use Rattle.simulation.proofs.WordOps.{choose_false}
+use Rattle.simulation.proofs.Context.{Flying, Dying, Ctx, Has, roots_in_dying, locs, awake, Core, core_words}
 use Rattle.simulation.specs.Borrows.{SteadyDrop, SteadyDrops, SteadyParts, SteadyLast}
-use Rattle.simulation.proofs.Relation.{Pooling, Keep, keep_low, keep_wide, Work, Rep, Does, by_ok, by_stop, back, does_then, does_need, does_choose, does_as}
+use Rattle.simulation.proofs.Relation.{Pooling, Keep, Rep, Does, by_ok, back, does_then, does_as}
 use Rattle.simulation.proofs.Stand.{Under}
 
 module _ (K : Kit) (F : Fits K) (P : Pools → (ℕ → ℕ) → List Class → List Place → Type 0) (Q : Pooling K P) (code : List Instr) (fns : Lexeme → Option Entry) (q : Prog) (dw : (k : Lexeme) (vs : Values) (i : Info) → K.info k ≡ some i → words_of q (con_v k vs) ≡ K.size (dat i.home)) where

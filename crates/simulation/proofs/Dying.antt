@@ -1,19 +1,16 @@
 -- Boxes being dropped: memory is said of the roots without them; their words are handed over to the drop.
 use mathlib.Core.Path.{◌≡◌, refl, sym, ap, subst, ◌∙◌}
-use mathlib.Core.Bool.{Bool, true, false, not}
+use mathlib.Core.Bool.{Bool, false, not}
 use mathlib.Core.List.{List, [], ◌∷◌, ◌++◌}
-use mathlib.Core.Option.{Option, some, none}
-use mathlib.Core.Logic.{◌⊎◌, inl, inr}
-use Prim.Native.Nat.{ℕ, zero, suc, ◌+◌, ◌≤◌, ◌<◌}
+use Prim.Native.Nat.{ℕ, zero, suc, ◌<◌}
 use native.Mathlib.Omega.{arith}
 use lib.ListN.{length}
 use lib.Dec.{T}
-use Rattle.language.specs.Base.{Lexeme, choose, at_place, set_at}
-use Rattle.language.specs.Syntax.{Ty}
-use Rattle.language.specs.Meaning.{Value, hole, Root, State}
+use Rattle.language.specs.Base.{at_place, set_at}
+use Rattle.language.specs.Meaning.{Root}
 pub use Rattle.simulation.specs.Borrows.{NotIn}
 use Rattle.simulation.proofs.Machine.{Kit}
-use Rattle.simulation.proofs.Memory.{no_some, some_is, Pl, Lay, Fits, Live, Owns, Sits, Mem, mem_words}
+use Rattle.simulation.proofs.Memory.{no_some, some_is, Pl, Fits, Live, Owns, Mem}
 
 abbrev pub quiet : List Root → ℕ → List Root
 quiet [] r = []

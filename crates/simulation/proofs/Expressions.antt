@@ -1,30 +1,29 @@
 -- Expressions: a step for each form but constructors and calls.
 use mathlib.Core.Path.{◌≡◌, refl, sym, ap, subst, ◌∙◌}
-use mathlib.Core.Bool.{Bool, true, false, ◌&&◌, not}
-use mathlib.Core.List.{List, [], ◌∷◌, ◌++◌, append_assoc}
+use mathlib.Core.Bool.{Bool, true, false}
+use mathlib.Core.List.{List, [], ◌∷◌, ◌++◌}
 use mathlib.Core.Option.{Option, some, none}
 use mathlib.Core.Logic.{◌⊎◌, inl, inr}
-use Prim.Native.Nat.{ℕ, zero, suc, ◌+◌, ◌-◌, ◌*◌, ◌/◌, ◌%◌, ◌≤◌, ◌<◌, max}
+use Prim.Native.Nat.{ℕ, zero, suc, ◌+◌, ◌-◌, ◌*◌, ◌/◌, ◌%◌, ◌≤◌, ◌<◌}
 use native.Mathlib.Omega.{arith}
 use lib.ListN.{length, drop}
-use lib.Dec.{eqb, ltb, leb, T}
-use Rattle.language.specs.Base.{Lexeme, choose, from_option, if_some, at_place, set_at, same}
-use Rattle.language.specs.Syntax.{Ty, int, dat, box, ref, mut, Expr, num, var, op, ctor, boxed, call, share, lend, load, get_e, Exprs, nil_e, cons_e, Prog}
-use Rattle.language.specs.Checks.{owned}
-use Rattle.language.specs.Meaning.{Loc, Value, int_v, con_v, box_v, ref_v, hole, Values, nil_v, cons_v, Root, Class, State, Limits, Stop, wrong, out_of_fuel, no_heap, no_stack, no_turns, Res, ok, stop, then, need, Name, Env, root_of, with_roots, live_root, read_at, write_at, here, adds_root, count_in, peaks, with_classes, makes_box, words_of, num_of, loc_of, moves, place_of, worked, next_read, reads_in, two_64, unless_0, as_number, eval, evals, at_path, put_path}
+use lib.Dec.{eqb, ltb, T}
+use Rattle.language.specs.Base.{Lexeme, choose, from_option, at_place, set_at}
+use Rattle.language.specs.Syntax.{Ty, int, dat, box, ref, mut, Expr, var, op, boxed, share, lend, load, Prog}
+use Rattle.language.specs.Meaning.{Loc, Value, int_v, con_v, box_v, ref_v, hole, Values, Root, Class, State, no_heap, ok, stop, Env, root_of, with_roots, read_at, write_at, here, adds_root, count_in, with_classes, makes_box, words_of, num_of, loc_of, moves, place_of, worked, next_read, reads_in, two_64, unless_0, as_number, eval}
 use Rattle.language.specs.Says.{shown_only}
-use Rattle.simulation.proofs.Machine.{Kit, Info, Place, Pools, Taken, Instr, NUM, COPY, MOVE, OP, BOX, ADDR, LOAD, GET, STUCK, Mode, running, Mach, Next, go, halt, stopped, upd, copy, swap, sets, pooled, reading, does, Runs, Leads, leads_on, lead_one, halt_one}
-use Rattle.simulation.proofs.Lowering.{Slot, Sc, slot_of, Entry, value_code, share_code, share_ty, type_e, code_e, code_es, high_e, high_es, Suf, suf_trans, later, same1, suf_e}
-use Rattle.simulation.proofs.Memory.{no_some, some_is, Pl, At, Lay, Fits, Ext, Live, lives, live, flag_of, Owns, Sits, Mem, Kind, Refers, Holed, upd_same, upd_other, at_put_same, at_put_other, at_end, copied, lay_ext, mem_words, mem_write, mem_add, ext_more, own_more, own_put, Frame}
+use Rattle.simulation.proofs.Machine.{Kit, Info, Place, Pools, Taken, Instr, NUM, COPY, MOVE, OP, BOX, ADDR, LOAD, GET, STUCK, Mach, go, halt, stopped, upd, copy, sets, pooled, reading, Runs, lead_one, halt_one}
+use Rattle.simulation.proofs.Lowering.{Slot, Entry, value_code, share_code, share_ty, type_e, code_e, high_e, Suf, suf_trans, suf_e}
+use Rattle.simulation.proofs.Memory.{some_is, Pl, Lay, Fits, Live, flag_of, Owns, Mem, Refers, Holed, upd_same, upd_other, at_end, copied, lay_ext, mem_write, ext_more, own_more, own_put}
 use Rattle.simulation.proofs.Dying.{hush_length, hush_put, live_hush, hush_more}
 use Rattle.simulation.proofs.Boxes.{boxes, In, in_this, in_rest, boxes_put, boxes_box, in_mid}
-use Rattle.simulation.proofs.WordOps.{leb_says, leb_denies, copy_in, copy_under, copy_over, copy_off}
+use Rattle.simulation.proofs.WordOps.{copy_in, copy_under, copy_off}
 use Rattle.simulation.proofs.Pointers.{Spot, spot_root, at_spot, spot_reads}
 use Rattle.simulation.proofs.Context.{Flying, Dying, Ctx, Has, has_this, has_rest, roots_in_dying, locs, awake, awake_live, with_held, with_flying, fly, Clear, Core, core_fly, core_unfly, core_less, core_put, dying_below, fly_spot}
 use Rattle.simulation.proofs.Changes.{core_add}
 use Rattle.simulation.specs.Borrows.{MovesClear, SteadyE}
-use Rattle.simulation.proofs.Relation.{Pooling, pl_of, Names, names_ext, Found, found, Keep, keep_low, Work, work_none, work_on, work_lower, Rep, Does, by_ok, by_stop, back, does_then, does_need, does_choose, does_as}
-use Rattle.simulation.proofs.Stand.{Base, AllHeld, held_root, Under, not_among, Read, reads, Wrote, wrote, num_is, loc_is, not_ref, core_above, rep_above, rep_ctl, rep_unfly, base_set, work_above, Stand, FitE, After, EvalSim, one_word, after_on}
+use Rattle.simulation.proofs.Relation.{Pooling, pl_of, names_ext, Found, found, Keep, keep_low, Work, work_on, Rep, Does, by_ok, by_stop, does_then, does_need}
+use Rattle.simulation.proofs.Stand.{Base, held_root, Under, not_among, Read, reads, wrote, num_is, loc_is, not_ref, rep_unfly, base_set, Stand, FitE, After, EvalSim, one_word, after_on}
 
 -- numbers stay numbers of 64 bits
 choose_lt : (t : Bool) (x y n1 : ℕ) → x < n1 → y < n1 → choose t x y < n1
@@ -32,7 +31,7 @@ choose_lt true x y n1 h g = h
 choose_lt false x y n1 h g = g
 
 mod_lt : (x : ℕ) → x % two_64 < two_64
-mod_lt x = native.Mathlib.Nat.mod_lt x (let z : 0 < two_64 = omega arith in z)
+mod_lt x = native.Mathlib.Nat.mod-lt x (let z : 0 < two_64 = omega arith in z)
 
 pub worked_lt : (o x y : ℕ) → x < two_64 → y < two_64 → worked o x y < two_64
 worked_lt o x y h g = choose_lt (eqb o 0) _ _ two_64 (mod_lt (x + y)) (choose_lt (eqb o 1) _ _ two_64 (mod_lt ((x + two_64) - y)) (choose_lt (eqb o 2) _ _ two_64 (mod_lt (x * y)) (choose_lt (eqb o 3) _ _ two_64 (divs x y h) (choose_lt (eqb o 4) _ _ two_64 (mods x y h) (choose_lt (eqb o 5) _ _ two_64 (bits (eqb x y)) (bits (ltb x y)))))))
@@ -177,7 +176,7 @@ module _ (K : Kit) (F : Fits K) (P : Pools → (ℕ → ℕ) → List Class → 
       where
         by_value : (r : ℕ) (l : Slot) → root_of g x ≡ some r → at_place L r ≡ some (pl_of fb l) → M.ctl ≡ value_code K h l l.ty ∷ is → (v : Value) → Read K L (awake Z s.roots) M.words r (pl_of fb l) v → MovesClear Z.held (locs Z.flying) s.roots r v → Does K F P code (After K F P Q code fns q dw Z fb sp lo h L s.roots M.words l.ty is) M (moves s r v)
         by_value r l er ea ec2 (int_v k) rd mc = let y1 = subst (λ (v1 : Value). Lay K L M.words (fb + (l.flag + 1)) l.ty v1) rd.val rd.sits.lay in
-            copies l Z fb sp lo h is L s M (int_v k) l.ty S.base (ec2 ∙ ap (λ (t : Ty). value_code K h l t ∷ is) y1.0) S.heap S.here S.under R refl (ap K.size y1.0 ∙ F.one_Int) y1 (λ i t e rf. absurd (subst (λ (t1 : Ty). Refers t1 t) y1.0 rf))
+            copies l Z fb sp lo h is L s M (int_v k) l.ty S.base (ec2 ∙ ap (λ (t : Ty). value_code K h l t ∷ is) y1.0) S.heap S.here S.under R refl (ap K.size y1.0 ∙ F.one_int) y1 (λ i t e rf. absurd (subst (λ (t1 : Ty). Refers t1 t) y1.0 rf))
         by_value r l er ea ec2 (con_v k vs) rd mc = let y1 = subst (λ (v1 : Value). Lay K L M.words (fb + (l.flag + 1)) l.ty v1) rd.val rd.sits.lay in
             does_need K F P code s (write_at s (here r) hole) (λ z ew. moved l r (subst Holed (sym y1.1.1) tt) Z fb sp lo h is L s z M (con_v k vs) S.base (ec2 ∙ (ap (λ (t : Ty). value_code K h l t ∷ is) y1.1.1 ∙ ap (λ (t : Ty). MOVE h l.flag (K.size t) ∷ is) (sym y1.1.1))) S.heap S.here S.under R refl (con_no k vs) ea rd mc ew)
         by_value r l er ea ec2 (box_v i) rd mc = let y1 = subst (λ (v1 : Value). Lay K L M.words (fb + (l.flag + 1)) l.ty v1) rd.val rd.sits.lay in
@@ -304,7 +303,7 @@ module _ (K : Kit) (F : Fits K) (P : Pools → (ℕ → ℕ) → List Class → 
         }))
 
     words_fit : (L : List Pl) (w : ℕ → ℕ) (a : ℕ) (t : Ty) (v : Value) → Lay K L w a t v → flag_of v ≡ 1 → words_of q v ≡ K.size t
-    words_fit L w a t (int_v k) y f = sym (ap K.size y.0 ∙ F.one_Int)
+    words_fit L w a t (int_v k) y f = sym (ap K.size y.0 ∙ F.one_int)
     words_fit L w a t (con_v k vs) y f = dw k vs y.0 y.1.0 ∙ ap K.size (sym y.1.1)
     words_fit L w a t (box_v r) y f = sym (ap K.size y.1.0 ∙ F.one_box y.0)
     words_fit L w a int (ref_v l) y f = absurd y.1

@@ -1,30 +1,24 @@
 -- if, while, statements one after the other, and blocks.
 use mathlib.Core.Path.{◌≡◌, refl, sym, ap, subst, ◌∙◌}
-use mathlib.Core.Bool.{Bool, true, false, ◌&&◌, not}
+use mathlib.Core.Bool.{Bool, true, false}
 use mathlib.Core.List.{List, [], ◌∷◌, ◌++◌, append_assoc}
-use mathlib.Core.Option.{Option, some, none}
-use mathlib.Core.Logic.{◌⊎◌, inl, inr}
-use Prim.Native.Nat.{ℕ, zero, suc, ◌+◌, ◌-◌, ◌*◌, ◌/◌, ◌%◌, ◌≤◌, ◌<◌, max}
+use mathlib.Core.Option.{Option, some}
+use Prim.Native.Nat.{ℕ, suc, ◌+◌, ◌≤◌}
 use native.Mathlib.Omega.{arith}
-use lib.ListN.{length, drop}
-use lib.Dec.{eqb, ltb, leb, T}
-use Rattle.language.specs.Base.{Lexeme, choose, from_option, if_some, at_place, set_at, same}
-use Rattle.language.specs.Syntax.{Ty, int, dat, box, ref, mut, Expr, Access, take, view, edit, Stmt, bind, assign, store, put_s, cond, loop, match_s, open_s, inside, Stmts, nil_s, cons_s, Alts, no_alts, alt, Prog}
-use Rattle.language.specs.Checks.{owned}
-use Rattle.language.specs.Meaning.{Loc, Value, int_v, con_v, box_v, ref_v, hole, Values, nil_v, cons_v, Root, Class, State, Limits, Res, ok, stop, then, need, turn, Name, Env, root_of, read_at, here, adds_root, roots_in, shows, newer, words_of, num_of, two_64, eval, exec, execs, block, ends}
-use Rattle.language.specs.Says.{shown_only}
-use Rattle.simulation.proofs.Machine.{Kit, Info, Place, Pools, Instr, NUM, PUT, JZ, JMP, TURN, END, STUCK, Mode, running, Mach, Next, go, halt, upd, sets, turned, showing, from_end, does, Runs, Leads, leads_on, lead_one, halt_one}
-use Rattle.simulation.proofs.Lowering.{Slot, Sc, slot_of, slot_at, Entry, type_e, code_e, high_e, enter, enter_all, unboxed, inside_ty, after_s, after_ss, code_ends, newer_slots, closes, alt_scope, code_s, code_ss, Suf, same1, later, suf_trans, suf_e, suf_ends, suf_s, suf_ss}
-use Rattle.simulation.proofs.Memory.{no_some, some_is, Pl, Lay, Fits, Ext, Live, flag_of, Refers, Owns, Sits, Mem, Kind, upd_same, upd_other, at_end, copied, lay_ext, ext_more, own_more}
-use Rattle.simulation.proofs.Boxes.{boxes}
-use Rattle.simulation.proofs.Pointers.{Spot}
-use Rattle.simulation.proofs.Context.{Flying, Dying, Ctx, Has, has_this, has_rest, has_front, roots_in_dying, locs, awake, with_held, with_flying, fly, fly_spot, Core, core_less, core_words}
-use Rattle.simulation.specs.Borrows.{env_roots, turned_state, SteadyE, SteadyS, SteadySs, SteadyBlock, SteadyEnds}
-use Rattle.simulation.proofs.Relation.{Pooling, pl_of, Names, no_names, one_name, names_ext, Keep, keep_low, keep_wide, Work, work_none, work_on, work_lower, Rep, Does, by_ok, by_stop, back, does_then, does_need, does_choose, does_as, does_more, does_turn}
-use Rattle.simulation.proofs.Scopes.{Stack, stack_on, stack_le, names_on, newer_on, newer_slots_on, jump, len_e, len_ends, len_ss, roots_on}
-use Rattle.simulation.proofs.Stand.{Base, AllHeld, Under, num_is, rep_ctl, rep_above, rep_unfly, base_set, work_above, core_above, Stand, FitE, After, EvalSim}
-use Rattle.simulation.proofs.Binding.{InSlots, Bound, binds}
-use Rattle.simulation.proofs.Statements.{held_front, held_more, FitS, FitSs, AfterS, AfterEnd, Ready, ExecSim, ExecsSim, BlockSim, EndsSim, stand, no_more, end_on, end_ctl, jumps, test_zero, int_word}
+use lib.ListN.{length}
+use lib.Dec.{eqb}
+use Rattle.language.specs.Base.{Lexeme, choose}
+use Rattle.language.specs.Syntax.{Ty, dat, Expr, cond, loop, Stmts, nil_s, cons_s, Prog}
+use Rattle.language.specs.Meaning.{con_v, Values, Root, Class, State, Res, ok, stop, then, turn, Env, newer, words_of, num_of, eval, exec, execs, block, ends}
+use Rattle.simulation.proofs.Machine.{Kit, Info, Place, Pools, Instr, JZ, JMP, TURN, STUCK, Mach, go, sets, turned, from_end, lead_one}
+use Rattle.simulation.proofs.Lowering.{Slot, Sc, Entry, type_e, code_e, after_s, after_ss, code_ends, newer_slots, closes, code_s, code_ss, Suf, same1, later, suf_trans, suf_e, suf_ends, suf_s, suf_ss}
+use Rattle.simulation.proofs.Memory.{Pl, Fits}
+use Rattle.simulation.proofs.Context.{Ctx, has_front, roots_in_dying, locs, awake, with_held, core_less}
+use Rattle.simulation.specs.Borrows.{env_roots, turned_state, SteadyS, SteadySs, SteadyBlock, SteadyEnds}
+use Rattle.simulation.proofs.Relation.{Pooling, Names, no_names, names_ext, Work, work_none, work_on, work_lower, Rep, Does, by_ok, by_stop, back, does_then, does_need, does_as, does_more, does_turn}
+use Rattle.simulation.proofs.Scopes.{stack_on, stack_le, names_on, newer_on, newer_slots_on, jump, len_e, len_ends, len_ss, roots_on}
+use Rattle.simulation.proofs.Stand.{AllHeld, rep_ctl, rep_unfly, base_set, EvalSim}
+use Rattle.simulation.proofs.Statements.{held_more, FitS, FitSs, AfterS, AfterEnd, Ready, ExecSim, ExecsSim, BlockSim, EndsSim, stand, no_more, end_on, end_ctl, jumps, test_zero, int_word}
 
 module _ (K : Kit) (F : Fits K) (P : Pools → (ℕ → ℕ) → List Class → List Place → Type 0) (Q : Pooling K P) (code : List Instr) (fns : Lexeme → Option Entry) (q : Prog) (dw : (k : Lexeme) (vs : Values) (i : Info) → K.info k ≡ some i → words_of q (con_v k vs) ≡ K.size (dat i.home)) where
   module _ (u : ℕ) (IE : EvalSim K F P Q code fns q dw u) (IX : ExecSim K F P Q code fns q dw u) (IB : BlockSim K F P Q code fns q dw u) where

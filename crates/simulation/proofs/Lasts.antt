@@ -1,33 +1,33 @@
 -- Data with a last function is dropped: the function runs on the data where it lies, as a root of its own; then its parts are dropped.
 use mathlib.Core.Path.{◌≡◌, refl, sym, ap, subst, ◌∙◌}
-use mathlib.Core.Bool.{Bool, true, false, ◌&&◌, not}
-use mathlib.Core.List.{List, [], ◌∷◌, ◌++◌, append_assoc}
-use mathlib.Core.Option.{Option, some, none}
+use mathlib.Core.Bool.{Bool, true, false, not}
+use mathlib.Core.List.{List, [], ◌∷◌, ◌++◌}
+use mathlib.Core.Option.{Option, some}
 use mathlib.Core.Logic.{◌⊎◌, inl, inr}
-use Prim.Native.Nat.{ℕ, zero, suc, ◌+◌, ◌-◌, ◌*◌, ◌/◌, ◌%◌, ◌≤◌, ◌<◌, max}
+use Prim.Native.Nat.{ℕ, suc, ◌+◌, ◌-◌, ◌≤◌, ◌<◌}
 use native.Mathlib.Omega.{arith}
-use lib.ListN.{length, drop}
-use lib.Dec.{eqb, ltb, leb, T}
-use Rattle.language.specs.Base.{Lexeme, choose, from_option, if_some, at_place, set_at, same}
-use Rattle.language.specs.Syntax.{Ty, int, dat, box, ref, mut, Fn, Prog}
-use Rattle.language.specs.Checks.{fn_named, types_of_pars}
-use Rattle.language.specs.Meaning.{Loc, Value, int_v, con_v, box_v, ref_v, hole, Values, nil_v, cons_v, list_of, Root, Class, State, Limits, Res, ok, stop, then, need, with_under, with_roots, live_root, read_at, here, adds_root, kill, frame, words_of, eval, calls, parts_of, lasts}
-use Rattle.simulation.proofs.Machine.{Kit, Info, Place, Pools, Instr, RESUME, RETURN, Mode, running, dropping, tagged, Mach, Next, go, halt, Outcome, upd, copy, to_mode, behind, from_end, enters, does, drop_step, Runs, Leads, leads_on, lead_one, lead_mode, halt_mode}
-use Rattle.simulation.proofs.Lowering.{Slot, Entry, Suf}
+use lib.ListN.{length}
+use lib.Dec.{T}
+use Rattle.language.specs.Base.{Lexeme, from_option, at_place, set_at}
+use Rattle.language.specs.Syntax.{Ty, int, dat, mut, Fn, Prog}
+use Rattle.language.specs.Checks.{types_of_pars}
+use Rattle.language.specs.Meaning.{Loc, Value, con_v, ref_v, hole, Values, nil_v, cons_v, Root, Class, State, with_under, with_roots, read_at, here, adds_root, kill, frame, words_of, eval, calls, parts_of}
+use Rattle.simulation.proofs.Machine.{Kit, Info, Place, Pools, Instr, RESUME, dropping, tagged, Mach, go, to_mode, behind, from_end, enters, drop_step, Leads, leads_on, lead_one, lead_mode, halt_mode}
+use Rattle.simulation.proofs.Lowering.{Entry}
 use Rattle.simulation.proofs.Memory.{no_some, some_is, at_end, at_old, more_length, Pl, At, Lay, Lays, total, Fits, Ext, Live, lives, live, flag_of, Refers, Owns, Sits, Mem, Kind, upd_same, upd_other, copied, lay_ext, ext_more, own_more, own_put, mem_write, Frame, frame_free}
 use Rattle.simulation.proofs.Dying.{NotIn, hush, hush_length, hush_more, live_hush}
 use Rattle.simulation.proofs.Boxes.{boxes, In, boxes_name, boxes_kill}
-use Rattle.simulation.proofs.WordOps.{copy_under, copy_over, copy_off, le_or}
+use Rattle.simulation.proofs.WordOps.{copy_off, le_or}
 use Rattle.simulation.proofs.Pointers.{Spot, spot_root}
-use Rattle.simulation.proofs.Context.{Flying, Dying, Ctx, Has, has_this, has_rest, roots_in_dying, locs, awake, awake_live, awake_not, Unseen, Dead, Core, core_words, core_less, core_unfly, dying_below, in_added}
+use Rattle.simulation.proofs.Context.{Dying, Ctx, Has, has_rest, roots_in_dying, locs, awake, awake_live, awake_not, Unseen, Dead, Core, core_less, core_unfly, dying_below, in_added}
 use Rattle.simulation.proofs.Changes.{core_add, core_end, gone_root}
-use Rattle.simulation.specs.Borrows.{SteadyLast, SteadyParts}
+use Rattle.simulation.specs.Borrows.{SteadyParts}
 use Rattle.simulation.proofs.Relation.{Pooling, Keep, keep_low, Work, Rep, Does, by_ok, by_stop, back, does_then, does_need, does_as}
 use Rattle.simulation.proofs.Scopes.{jump}
-use Rattle.simulation.proofs.Stand.{Under, Read, reads, core_above}
+use Rattle.simulation.proofs.Stand.{reads, core_above}
 use Rattle.simulation.proofs.Passing.{ArgSpots}
 use Rattle.simulation.proofs.Calls.{Coded, CallsSim, Gave, hd, headed, under_header, narrow, back_at, returned}
-use Rattle.simulation.proofs.Drops.{LastFn, Tables, SameBut, Dropped, AfterDrop, Handed, Dropping, PartsSim, LastSim}
+use Rattle.simulation.proofs.Drops.{LastFn, Dropped, AfterDrop, Handed, Dropping, PartsSim, LastSim}
 
 module _ (K : Kit) (F : Fits K) (P : Pools → (ℕ → ℕ) → List Class → List Place → Type 0) (Q : Pooling K P) (code : List Instr) (fns : Lexeme → Option Entry) (q : Prog) (dw : (k : Lexeme) (vs : Values) (i : Info) → K.info k ≡ some i → words_of q (con_v k vs) ≡ K.size (dat i.home)) where
   -- what is handed over ends where what is kept ends
@@ -61,7 +61,7 @@ module _ (K : Kit) (F : Fits K) (P : Pools → (ℕ → ℕ) → List Class → 
         (λ j g1 g2 g3. in_added K F s.roots L x1 y j lenL (in_heap Z lo L s.roots M.words j X g3 R.core (hd1.keep j g1 g2))) R.core) in
         let R1 : Rep K F P Z X L1 s1 M = record { core = c1; pool = subst (λ (us : List Place). P M.pool M.words s.classes us) (sym ebx) R.pool; sp = R.sp; turns = R.turns; ins = R.ins; outs = R.outs } in
         let pr = lf.pars fn ef in
-        let er : K.size fn.ret ≡ 1 = ap K.size pr.1 ∙ F.one_Int in
+        let er : K.size fn.ret ≡ 1 = ap K.size pr.1 ∙ F.one_int in
         let b1 : ℕ = K.resume d in let e3 : ℕ = length M.ctl in
         let hw : ℕ → ℕ = hd K F P Q code fns q dw M b1 (X + 2) a pe e3 in
         let hh = headed M.words X b1 M.fb (X + 2) M.full a pe e3 in
@@ -97,7 +97,7 @@ module _ (K : Kit) (F : Fits K) (P : Pools → (ℕ → ℕ) → List Class → 
             let W : ℕ → ℕ = O.words in let hk = rt.1 in
             let swr = F.some_word fn.ret in
             let rs2 : List Root = G1.inner.roots in let ws2 : List Root = awake Z rs2 in let L2 : List Pl = G1.L2 in
-            let er : zr ≡ 1 = ap K.size ert ∙ F.one_Int in
+            let er : zr ≡ 1 = ap K.size ert ∙ F.one_int in
             let low1 : (j : ℕ) → (j ≡ X + 2 → ⊥) → W j ≡ N.words j = λ j g. copy_off N.words (X + 2) (X + 8) zr j (λ g1 g2. g (omega arith)) in
             let O2 : Mach = to_mode O M.ctl W (tagged a d pe) in
             let lead2 : Leads K code N O2 = leads_on rt.0 (lead_one {N = O2} (RESUME d) lf.rest refl lf.at

@@ -1,17 +1,11 @@
 -- What stands behind a piece of code is a part of it.
-use mathlib.Core.Path.{◌≡◌, refl, sym, ap, subst, ◌∙◌}
-use mathlib.Core.Bool.{Bool, true, false, ◌&&◌}
-use mathlib.Core.List.{List, [], ◌∷◌, ◌++◌}
-use mathlib.Core.Option.{Option, some, none}
-use Prim.Native.Nat.{ℕ, zero, suc, ◌+◌, ◌-◌, ◌*◌, ◌≤◌, ◌<◌, max}
-use native.Mathlib.Omega.{arith}
-use lib.ListN.{length, drop}
-use lib.Dec.{eqb, ltb, leb}
-use Rattle.language.specs.Base.{Lexeme, choose, from_option, at_place, same}
-use Rattle.language.specs.Syntax.{Ty, int, dat, box, ref, mut, Expr, num, var, op, ctor, boxed, call, share, lend, load, get_e, Exprs, nil_e, cons_e, Access, take, view, edit, Stmt, bind, assign, store, put_s, cond, loop, match_s, open_s, inside, Stmts, nil_s, cons_s, Alts, no_alts, alt, Body, body, Tail, give, give_cond, give_match, Arms, no_arms, arm, Ctor, Data, Param, Fn, Prog}
-use Rattle.language.specs.Checks.{types_of_pars}
-use Rattle.language.specs.Meaning.{names_of}
-use Rattle.simulation.proofs.Machine.{Kit, Info, Instr, NUM, COPY, MOVE, OP, BOX, ADDR, LOAD, GET, TURN, ASSIGN, STORE, PADDR, PART, JTAG, OPEN, PUT, JZ, JMP, END, CALL, RESULT, RETURN, STUCK, from_end}
+use mathlib.Core.List.{List, [], ◌∷◌}
+use mathlib.Core.Option.{Option}
+use Prim.Native.Nat.{ℕ, ◌+◌}
+use lib.ListN.{length}
+use Rattle.language.specs.Base.{Lexeme}
+use Rattle.language.specs.Syntax.{Ty, Expr, num, var, op, ctor, boxed, call, share, lend, load, get_e, Exprs, nil_e, cons_e, Access, take, view, edit, Stmt, bind, assign, store, put_s, cond, loop, match_s, open_s, inside, Stmts, nil_s, cons_s, Alts, no_alts, alt, Body, body, Tail, give, give_cond, give_match, Arms, no_arms, arm}
+use Rattle.simulation.proofs.Machine.{Kit, Instr, OP, JMP}
 pub use Rattle.simulation.specs.Lowering.{Slot, Sc, slot_of, slot_at, Entry, unboxed, inside_ty, part_ty, part_tys, value_code, share_code, share_ty, type_e, code_e, code_es, high_e, high_es, enter, enter_all, after_s, after_ss, code_ends, newest_slots, newer_slots, closes, tag_of, fields_of, part_code, code_parts, code_taken, base_of, alt_scope, code_open, code_s, code_ss, code_alts, code_body, code_tail, code_arms, first_scope, pars_scope, code_fn, Suf, same1, later}
 
 module _ (k : Kit) (fns : Lexeme → Option Entry) where

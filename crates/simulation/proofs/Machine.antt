@@ -1,15 +1,7 @@
 -- Steps of the machine lead on.
-use mathlib.Core.Path.{◌≡◌, refl, sym, ap, subst, ◌∙◌}
-use mathlib.Core.Bool.{Bool, true, false, ◌&&◌}
-use mathlib.Core.List.{List, [], ◌∷◌, ◌++◌}
-use mathlib.Core.Option.{Option, some, none}
-use Prim.Native.Nat.{ℕ, zero, suc, ◌+◌, ◌-◌, ◌*◌, ◌≤◌, ◌<◌}
-use native.Mathlib.Omega.{arith}
-use lib.ListN.{length, drop}
-use lib.Dec.{eqb, ltb, leb}
-use Rattle.language.specs.Base.{Lexeme, choose, from_option, at_place}
-use Rattle.language.specs.Syntax.{Ty, int, dat, box, ref, mut}
-use Rattle.language.specs.Meaning.{Limits, Stop, wrong, out_of_fuel, no_heap, no_stack, no_turns, worked, next_read}
+use mathlib.Core.Path.{◌≡◌, ap, ◌∙◌}
+use mathlib.Core.List.{List, ◌∷◌}
+use Prim.Native.Nat.{ℕ}
 pub use Rattle.simulation.specs.Machine.{Info, Ent, Place, Pools, Taken, Kit, Instr, Mode, Mach, Outcome, Next, upd, copy, swap, from_end, sets, to_mode, pooled, turned, reading, showing, pushed, popped, passed, header, entered, enters, left, behind, does, drop_step, tagged_step, fields_step, whole_step, run_step, mode_step, Runs, NUM, COPY, MOVE, OP, BOX, ADDR, LOAD, GET, TURN, ASSIGN, STORE, PADDR, PART, JTAG, OPEN, PUT, JZ, JMP, END, CALL, RESULT, RETURN, RESUME, MAIN, HALT, STUCK, running, dropping, tagged, fields, whole, ended, stopped, go, halt, halts, goes}
 unfoldable pub use Rattle.simulation.specs.Machine.{step}
 

@@ -1,35 +1,31 @@
 -- match: the alternative is found by the tag, its parts get names, its statements or its body are done.
 use mathlib.Core.Path.{◌≡◌, refl, sym, ap, subst, ◌∙◌}
 use mathlib.Core.Bool.{Bool, true, false, ◌&&◌, not}
-use mathlib.Core.List.{List, [], ◌∷◌, ◌++◌, append_assoc}
-use mathlib.Core.Option.{Option, some, none}
+use mathlib.Core.List.{List, [], ◌∷◌, ◌++◌}
+use mathlib.Core.Option.{Option, some}
 use mathlib.Core.Logic.{◌⊎◌, inl, inr}
-use Prim.Native.Nat.{ℕ, zero, suc, ◌+◌, ◌-◌, ◌*◌, ◌/◌, ◌%◌, ◌≤◌, ◌<◌, max}
+use Prim.Native.Nat.{ℕ, ◌+◌, ◌≤◌, ◌<◌}
 use native.Mathlib.Omega.{arith}
-use lib.ListN.{length, drop}
-use lib.Dec.{eqb, ltb, leb, T}
-use Rattle.language.specs.Base.{Lexeme, choose, from_option, if_some, at_place, set_at, same}
-use Rattle.language.specs.Syntax.{Ty, int, dat, box, ref, mut, Access, take, view, edit, Stmt, match_s, Stmts, Alts, no_alts, alt, Body, Tail, give_match, Arms, no_arms, arm, Prog}
-use Rattle.language.specs.Meaning.{Loc, Value, int_v, con_v, box_v, ref_v, hole, Values, nil_v, cons_v, Root, Class, State, Limits, Res, ok, stop, then, need, Name, Env, root_of, with_roots, read_at, write_at, here, words_of, at_path, put_path, nth_v, list_of, refs_to, parts, taken, names_in, roots_in, place_of, Found, find_alt, FoundArm, find_arm, Shape, shape, shape_of, eval, exec, block, by_alt, tails, bodies, by_shape}
-use Rattle.simulation.proofs.Machine.{Kit, Info, Place, Pools, Instr, NUM, PADDR, JTAG, JMP, Mode, running, Mach, Next, go, halt, upd, copy, sets, from_end, does, Leads, leads_on, lead_one}
-use Rattle.simulation.proofs.Lowering.{Slot, Sc, slot_of, slot_at, Entry, share_code, share_ty, part_ty, part_tys, part_code, enter_all, base_of, alt_scope, tag_of, fields_of, code_parts, code_taken, code_open, newer_slots, after_ss, code_ends, code_ss, code_s, code_alts, code_body, code_tail, code_arms, Suf, same1, later, suf_trans, suf_ends, suf_ss, suf_alts, suf_open, suf_body, suf_arms}
+use lib.Dec.{eqb, T}
+use Rattle.language.specs.Base.{Lexeme, choose, from_option, at_place, set_at, same}
+use Rattle.language.specs.Syntax.{Ty, int, dat, box, ref, mut, Access, take, view, edit, Prog}
+use Rattle.language.specs.Meaning.{Loc, Value, con_v, ref_v, hole, Values, Root, Class, State, Env, with_roots, read_at, write_at, here, words_of, list_of, refs_to, parts, taken, names_in, roots_in}
+use Rattle.simulation.proofs.Machine.{Kit, Info, Place, Pools, Instr, NUM, PADDR, JTAG, Mach, go, upd, sets, from_end, Leads, leads_on, lead_one}
+use Rattle.simulation.proofs.Lowering.{Slot, Sc, slot_of, slot_at, Entry, share_ty, part_ty, part_tys, part_code, enter_all, base_of, alt_scope, tag_of, fields_of, code_parts, code_open}
 use Rattle.simulation.proofs.Memory.{no_some, some_is, Pl, Lay, Lays, total, Fits, Ext, Live, flag_of, Refers, Owns, Sits, Mem, Kind, eqb_yes, eqb_no, upd_same, upd_other, copied_all, lays_ext, mem_write, own_put, frame_words}
-use Rattle.simulation.proofs.Paths.{field_off, data_laid, DataLaid}
+use Rattle.simulation.proofs.Paths.{field_off}
 use Rattle.simulation.proofs.Dying.{hush_put}
 use Rattle.simulation.proofs.Boxes.{boxes, boxes_put}
 use Rattle.simulation.proofs.WordOps.{choose_true, choose_false}
 use Rattle.simulation.proofs.Pointers.{Spot, spot_part, at_spot, spot_reads}
 use Rattle.simulation.proofs.Context.{Flying, Dying, Ctx, Has, has_this, has_rest, roots_in_dying, locs, awake, awake_live, awake_not, with_held, with_flying, fly, fly_spot, Core, core_words, core_put, core_wider, core_unfly}
-use Rattle.simulation.specs.Borrows.{env_roots, TakesClear, SteadyS, SteadyAlt, SteadyBlock, SteadyTail, SteadyArm, SteadyBody}
-use Rattle.simulation.proofs.Relation.{Pooling, pl_of, Names, names_ext, found, Keep, keep_low, Work, work_none, work_on, work_lower, Rep, Does, by_ok, by_stop, back, does_then, does_need, does_as, does_more}
-use Rattle.simulation.proofs.Scopes.{Stack, stack_le, names_on, jump}
-use Rattle.simulation.proofs.Stand.{Base, AllHeld, held_root, Under, Read, reads, Wrote, wrote, rep_above, rep_ctl, rep_unfly, base_set, core_above, work_above, Stand, After, EvalSim}
-use Rattle.simulation.proofs.Expressions.{looked}
-use Rattle.simulation.proofs.Binding.{InSlots, Bound, binds, roots_same}
+use Rattle.simulation.specs.Borrows.{env_roots, TakesClear}
+use Rattle.simulation.proofs.Relation.{Pooling, pl_of, Names, names_ext, Keep, keep_low, Work, work_none, work_on, Rep}
+use Rattle.simulation.proofs.Scopes.{Stack, stack_le, names_on}
+use Rattle.simulation.proofs.Stand.{Base, Under, reads, wrote, rep_above, base_set, work_above}
+use Rattle.simulation.proofs.Binding.{binds, roots_same}
 use Rattle.simulation.proofs.Opening.{step_to, Fetched, fetch_refs, fetch_words}
-use Rattle.simulation.proofs.Statements.{held_more, seen_ty, Takes, FitS, FitSs, FitAlts, AfterS, AfterEnd, Ready, BlockSim, stand, no_more, jumps}
-use Rattle.simulation.proofs.Bodies.{FitBody, FitTail, FitArms, Area, area_on, Given1, BodySim}
-use Rattle.simulation.proofs.Calls.{narrow}
+use Rattle.simulation.proofs.Statements.{held_more, seen_ty, Ready}
 use Rattle.simulation.proofs.Drops.{Tables}
 
 pub same_eq : (xs ys : List ℕ) → same xs ys ≡ true → xs ≡ ys

@@ -1,19 +1,19 @@
 -- Where values lie; memory as a whole; what a piece of work leaves alone.
 use mathlib.Core.Path.{◌≡◌, refl, sym, ap, subst, ◌∙◌}
-use mathlib.Core.Bool.{Bool, true, false, ◌&&◌}
+use mathlib.Core.Bool.{Bool, true, false}
 use mathlib.Core.List.{List, [], ◌∷◌, ◌++◌}
 use mathlib.Core.Option.{Option, some, none}
 use mathlib.Core.Logic.{◌⊎◌, inl, inr}
-use Prim.Native.Nat.{ℕ, zero, suc, ◌+◌, ◌-◌, ◌*◌, ◌≤◌, ◌<◌}
+use Prim.Native.Nat.{ℕ, zero, suc, ◌+◌, ◌≤◌, ◌<◌}
 use native.Mathlib.Omega.{arith}
-use lib.ListN.{length, drop}
-use lib.Dec.{eqb, ltb, leb, T, eqb→eq, eqb_refl}
-use Rattle.language.specs.Base.{Lexeme, choose, from_option, if_some, at_place, set_at, same}
+use lib.ListN.{length}
+use lib.Dec.{eqb, T, eqb→eq, eqb_refl}
+use Rattle.language.specs.Base.{choose, if_some, at_place, set_at}
 use Rattle.language.specs.Syntax.{Ty, int, dat, box, ref, mut}
-use Rattle.language.specs.Meaning.{Loc, Value, int_v, con_v, box_v, ref_v, hole, Values, nil_v, cons_v, Root, State, nth_v, put_v, at_path, put_path, two_64}
+use Rattle.language.specs.Meaning.{Value, int_v, con_v, box_v, ref_v, hole, Values, nil_v, cons_v, Root, two_64}
 pub use Rattle.simulation.specs.Sizes.{total, Fits}
 pub use Rattle.simulation.specs.Borrows.{Live}
-use Rattle.simulation.proofs.Machine.{Kit, Info, upd, copy, swap}
+use Rattle.simulation.proofs.Machine.{Kit, Info, upd}
 
 pub no_some : {A : Type 0} {x : A} → none ≡ some x → ⊥
 no_some e = let z : ◌≡◌ {A = ℕ} 0 1 = cc in omega arith

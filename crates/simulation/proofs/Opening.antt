@@ -1,25 +1,20 @@
 -- The parts of what is matched, into their slots: as addresses, or moved out.
 use mathlib.Core.Path.{◌≡◌, refl, sym, ap, subst, ◌∙◌}
-use mathlib.Core.Bool.{Bool, true, false, ◌&&◌, not}
-use mathlib.Core.List.{List, [], ◌∷◌, ◌++◌, append_assoc}
-use mathlib.Core.Option.{Option, some, none}
-use mathlib.Core.Logic.{◌⊎◌, inl, inr}
-use Prim.Native.Nat.{ℕ, zero, suc, ◌+◌, ◌-◌, ◌*◌, ◌/◌, ◌%◌, ◌≤◌, ◌<◌, max}
+use mathlib.Core.List.{List, [], ◌∷◌, ◌++◌}
+use mathlib.Core.Option.{Option, some}
+use Prim.Native.Nat.{ℕ, suc, ◌+◌, ◌≤◌, ◌<◌}
 use native.Mathlib.Omega.{arith}
-use lib.ListN.{length, drop}
-use lib.Dec.{eqb, ltb, leb, T}
-use Rattle.language.specs.Base.{Lexeme, choose, from_option, if_some, at_place, set_at, same}
-use Rattle.language.specs.Syntax.{Ty, int, dat, box, ref, mut, Access, take, view, edit}
-use Rattle.language.specs.Checks.{owned}
-use Rattle.language.specs.Meaning.{Loc, Value, int_v, con_v, box_v, ref_v, hole, Values, nil_v, cons_v, Root, State, nth_v, list_of, refs_to}
+use Rattle.language.specs.Base.{Lexeme, at_place}
+use Rattle.language.specs.Syntax.{Ty, int, dat, box, ref, mut, Access, take}
+use Rattle.language.specs.Meaning.{Loc, Value, Values, nil_v, cons_v, Root, nth_v, list_of, refs_to}
 use Rattle.simulation.proofs.Machine.{Kit, Info, Instr, NUM, PADDR, PART, Mode, running, Mach, go, upd, copy, sets, does, Leads, leads_on, lead_one}
-use Rattle.simulation.proofs.Lowering.{Slot, Entry, part_ty, part_tys, part_code, code_parts}
-use Rattle.simulation.proofs.Memory.{no_some, some_is, Pl, Lay, Lays, total, Fits, Live, flag_of, Refers, upd_same, upd_other, copied, copied_all}
+use Rattle.simulation.proofs.Lowering.{Entry, part_ty, part_tys, part_code, code_parts}
+use Rattle.simulation.proofs.Memory.{Pl, Lay, Lays, total, Fits, flag_of, Refers, upd_same, upd_other, copied, copied_all}
 use Rattle.simulation.proofs.WordOps.{copy_in, copy_under}
 use Rattle.simulation.proofs.Paths.{field_off}
 use Rattle.simulation.proofs.Pointers.{Spot}
 use Rattle.simulation.proofs.Stand.{Base, not_ref}
-use Rattle.simulation.proofs.Binding.{InSlot, InSlots}
+use Rattle.simulation.proofs.Binding.{InSlots}
 use Rattle.simulation.proofs.Drops.{AllOwned}
 
 abbrev pub step_to : Loc → ℕ → Loc

@@ -1,29 +1,29 @@
 -- open: what's in a box becomes a name's, the box ends; inside: a reference to what's in a box.
 use mathlib.Core.Path.{◌≡◌, refl, sym, ap, subst, ◌∙◌}
-use mathlib.Core.Bool.{Bool, true, false, ◌&&◌, not}
-use mathlib.Core.List.{List, [], ◌∷◌, ◌++◌, append_assoc}
-use mathlib.Core.Option.{Option, some, none}
+use mathlib.Core.Bool.{Bool, true, false, not}
+use mathlib.Core.List.{List, [], ◌∷◌, ◌++◌}
+use mathlib.Core.Option.{Option, some}
 use mathlib.Core.Logic.{◌⊎◌, inl, inr}
-use Prim.Native.Nat.{ℕ, zero, suc, ◌+◌, ◌-◌, ◌*◌, ◌/◌, ◌%◌, ◌≤◌, ◌<◌, max}
+use Prim.Native.Nat.{ℕ, suc, ◌+◌, ◌≤◌, ◌<◌}
 use native.Mathlib.Omega.{arith}
-use lib.ListN.{length, drop}
-use lib.Dec.{eqb, ltb, leb, T}
-use Rattle.language.specs.Base.{Lexeme, choose, from_option, if_some, at_place, set_at, same}
-use Rattle.language.specs.Syntax.{Ty, int, dat, box, ref, mut, Stmt, open_s, inside, Prog}
+use lib.ListN.{length}
+use lib.Dec.{T}
+use Rattle.language.specs.Base.{Lexeme, from_option, at_place, set_at}
+use Rattle.language.specs.Syntax.{Ty, int, dat, box, ref, mut, open_s, inside, Prog}
 use Rattle.language.specs.Checks.{owned}
-use Rattle.language.specs.Meaning.{Loc, Value, int_v, con_v, box_v, ref_v, hole, Values, nil_v, cons_v, Root, Class, State, Limits, Res, ok, stop, then, need, Name, Env, root_of, with_roots, with_classes, live_root, read_at, write_at, here, adds_root, kill, ends_box, count_out, loc_of, box_of, words_of, at_path, put_path, eval, exec}
-use Rattle.simulation.proofs.Machine.{Kit, Info, Place, Pools, Instr, NUM, LOAD, OPEN, Mode, running, Mach, Next, go, halt, upd, copy, sets, pooled, does, Leads, leads_on, lead_one}
-use Rattle.simulation.proofs.Lowering.{Slot, Sc, slot_of, slot_at, Entry, unboxed, inside_ty, enter, after_s, code_s, Suf}
+use Rattle.language.specs.Meaning.{Loc, Value, con_v, box_v, ref_v, hole, Values, Root, Class, State, ok, Env, root_of, with_roots, with_classes, live_root, read_at, write_at, here, adds_root, ends_box, count_out, loc_of, box_of, words_of, at_path, eval, exec}
+use Rattle.simulation.proofs.Machine.{Kit, Info, Place, Pools, Instr, NUM, LOAD, OPEN, Mach, go, upd, copy, sets, pooled, lead_one}
+use Rattle.simulation.proofs.Lowering.{Slot, Sc, slot_at, Entry, unboxed, inside_ty, enter, after_s, code_s}
 use Rattle.simulation.proofs.Memory.{no_some, some_is, Pl, At, Lay, Fits, Ext, Live, lives, live, flag_of, Refers, Holed, Owns, Sits, Mem, Kind, upd_same, upd_other, at_put_same, at_put_other, copied, mem_write, own_put, frame_words}
-use Rattle.simulation.proofs.Dying.{NotIn, live_hush, hush_put}
-use Rattle.simulation.proofs.Boxes.{boxes, In, in_apart, boxes_put, Among, among}
+use Rattle.simulation.proofs.Dying.{live_hush, hush_put}
+use Rattle.simulation.proofs.Boxes.{boxes, In, in_apart, boxes_put, among}
 use Rattle.simulation.proofs.WordOps.{if_some_is, copy_in, copy_under}
 use Rattle.simulation.proofs.Pointers.{Spot, spot_root, at_spot, spot_reads}
 use Rattle.simulation.proofs.Context.{Flying, Dying, Ctx, Has, has_this, has_rest, roots_in_dying, locs, awake, awake_live, awake_not, Core, core_put}
 use Rattle.simulation.proofs.Changes.{core_end, gone_root}
 use Rattle.simulation.specs.Borrows.{SteadyS}
-use Rattle.simulation.proofs.Relation.{Pooling, pl_of, Names, names_ext, Found, found, Keep, keep_low, Work, work_none, work_on, work_lower, Rep, Does, by_ok, by_stop, back, does_then, does_need, does_as}
-use Rattle.simulation.proofs.Stand.{Base, held_root, Under, Read, reads, Wrote, wrote, loc_is, box_is, not_ref, core_above, rep_above, base_set, work_above, EvalSim}
+use Rattle.simulation.proofs.Relation.{Pooling, pl_of, found, keep_low, Work, work_lower, Rep, Does, back, does_need, does_as}
+use Rattle.simulation.proofs.Stand.{held_root, reads, wrote, loc_is, box_is, not_ref, rep_above, base_set, work_above, EvalSim}
 use Rattle.simulation.proofs.Statements.{FitS, AfterS, Ready, names_one, s_on}
 use Rattle.simulation.proofs.Matches.{slot_is}
 

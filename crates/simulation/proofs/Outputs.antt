@@ -1,17 +1,16 @@
 -- A machine whose output has room for so many: what it does, from what the one without a limit does.
-use mathlib.Core.Path.{◌≡◌, refl, sym, ap, subst, ◌∙◌}
-use mathlib.Core.Bool.{Bool, true, false, not}
+use mathlib.Core.Path.{◌≡◌, refl, ap, subst, ◌∙◌}
+use mathlib.Core.Bool.{Bool, true, false}
 use mathlib.Core.List.{List, [], ◌∷◌, ◌++◌, append_assoc}
 use mathlib.Core.Option.{Option, some, none}
 use mathlib.Core.Logic.{◌⊎◌, inl, inr}
-use Prim.Native.Nat.{ℕ, zero, suc, ◌+◌, ◌-◌, ◌≤◌, ◌<◌}
-use native.Mathlib.Omega.{arith}
+use Prim.Native.Nat.{ℕ, ◌+◌, ◌≤◌}
 use lib.ListN.{length}
 use lib.Dec.{eqb, ltb, leb}
 use Rattle.language.specs.Base.{Lexeme, choose, from_option}
 use Rattle.language.specs.Syntax.{Ty, int, dat, box, ref, mut}
 pub use Rattle.simulation.specs.Outputs.{Capped, c_halts, c_goes, Full, f_here, f_goes, Over}
-use Rattle.simulation.proofs.Machine.{Kit, Taken, Instr, NUM, COPY, MOVE, OP, BOX, ADDR, LOAD, GET, TURN, ASSIGN, STORE, PADDR, PART, JTAG, OPEN, PUT, JZ, JMP, END, CALL, RESULT, RETURN, RESUME, MAIN, HALT, STUCK, Mode, running, dropping, tagged, fields, whole, Mach, Next, go, halt, Outcome, entered, enters, does, drop_step, tagged_step, fields_step, whole_step, run_step, mode_step, step, Runs, halts, goes}
+use Rattle.simulation.proofs.Machine.{Kit, Taken, Instr, NUM, COPY, MOVE, OP, BOX, ADDR, LOAD, GET, TURN, ASSIGN, STORE, PADDR, PART, JTAG, OPEN, PUT, JZ, JMP, END, CALL, RESULT, RETURN, RESUME, MAIN, HALT, STUCK, Mode, running, dropping, tagged, fields, whole, Mach, Next, go, halt, Outcome, enters, does, drop_step, run_step, mode_step, step, Runs, halts, goes}
 use Rattle.simulation.proofs.WordOps.{leb_says, leb_denies}
 
 -- a step only adds to what was shown

@@ -1,23 +1,17 @@
 -- Arguments become parameters: their words are copied into the callee's slots.
 use mathlib.Core.Path.{◌≡◌, refl, sym, ap, subst, ◌∙◌}
-use mathlib.Core.Bool.{Bool, true, false, ◌&&◌, not}
-use mathlib.Core.List.{List, [], ◌∷◌, ◌++◌, append_assoc}
-use mathlib.Core.Option.{Option, some, none}
-use mathlib.Core.Logic.{◌⊎◌, inl, inr}
-use Prim.Native.Nat.{ℕ, zero, suc, ◌+◌, ◌-◌, ◌*◌, ◌/◌, ◌%◌, ◌≤◌, ◌<◌, max}
+use mathlib.Core.List.{List, [], ◌∷◌}
+use Prim.Native.Nat.{ℕ, ◌+◌, ◌≤◌, ◌<◌}
 use native.Mathlib.Omega.{arith}
-use lib.ListN.{length, drop}
-use lib.Dec.{eqb, ltb, leb, T}
-use Rattle.language.specs.Base.{Lexeme, choose, from_option, if_some, at_place, set_at, same}
 use Rattle.language.specs.Syntax.{Ty, int, dat, box, ref, mut}
-use Rattle.language.specs.Meaning.{Loc, Value, int_v, con_v, box_v, ref_v, hole, Values, nil_v, cons_v, list_of, Root}
+use Rattle.language.specs.Meaning.{Loc, Value, ref_v, Values, nil_v, cons_v, list_of, Root}
 use Rattle.simulation.proofs.Machine.{Kit, upd, copy, passed}
-use Rattle.simulation.proofs.Memory.{no_some, some_is, Pl, Lay, Lays, total, Fits, Live, flag_of, Refers, upd_same, upd_other, copied, copied_all}
+use Rattle.simulation.proofs.Memory.{Pl, Lay, Lays, total, Fits, Refers, upd_same, upd_other, copied, copied_all}
 use Rattle.simulation.proofs.WordOps.{copy_in, copy_under}
 use Rattle.simulation.proofs.Pointers.{Spot, spot_word}
-use Rattle.simulation.proofs.Context.{Flying, Ctx, Has, has_this, has_rest, with_flying, fly, Core}
+use Rattle.simulation.proofs.Context.{Flying, Ctx, Has, has_this, with_flying, fly, Core}
 use Rattle.simulation.proofs.Arguments.{flies, has_flies}
-use Rattle.simulation.proofs.Binding.{InSlot, InSlots}
+use Rattle.simulation.proofs.Binding.{InSlots}
 
 -- references among arguments are right
 abbrev pub ArgSpots : Kit → List Pl → List Root → (ℕ → ℕ) → ℕ → List Ty → Values → Type 0

@@ -1,16 +1,15 @@
 -- Parts of data: the offset and the type along a path; a part is laid there, and written there.
 use mathlib.Core.Path.{◌≡◌, refl, sym, ap, subst, ◌∙◌}
 use mathlib.Core.List.{List, [], ◌∷◌, ◌++◌}
-use mathlib.Core.Option.{Option, some, none}
+use mathlib.Core.Option.{Option, some}
 use mathlib.Core.Logic.{◌⊎◌, inl, inr}
 use Prim.Native.Nat.{ℕ, zero, suc, ◌+◌, ◌≤◌, ◌<◌}
 use native.Mathlib.Omega.{arith}
 use mathlib.Core.Bool.{Bool, true, false, not}
-use lib.ListN.{length}
 use lib.Dec.{leb, T, leb→le, nleb→lt}
-use Rattle.language.specs.Base.{Lexeme, choose, from_option, if_some, at_place, set_at}
-use Rattle.language.specs.Syntax.{Ty, int, dat, box, ref, mut}
-use Rattle.language.specs.Meaning.{Loc, Value, int_v, con_v, box_v, ref_v, hole, Values, nil_v, cons_v, nth_v, put_v, at_path, put_path}
+use Rattle.language.specs.Base.{Lexeme, from_option, if_some, at_place}
+use Rattle.language.specs.Syntax.{Ty, dat}
+use Rattle.language.specs.Meaning.{Value, con_v, hole, Values, nil_v, cons_v, nth_v, put_v, at_path, put_path}
 pub use Rattle.simulation.specs.Borrows.{Inside}
 use Rattle.simulation.proofs.Machine.{Kit, Info}
 use Rattle.simulation.proofs.Memory.{no_some, some_is, same_or, Pl, Lay, Lays, total, Fits, flag_of, copied, copied_all}

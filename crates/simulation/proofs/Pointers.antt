@@ -1,17 +1,16 @@
 -- References into data: an address that is right now; what lies there, and what writing there does.
 use mathlib.Core.Path.{◌≡◌, refl, sym, ap, subst, ◌∙◌}
-use mathlib.Core.Bool.{Bool, true, false}
+use mathlib.Core.Bool.{Bool, true}
 use mathlib.Core.List.{List, [], ◌∷◌, ◌++◌}
 use mathlib.Core.Option.{Option, some, none}
 use mathlib.Core.Logic.{◌⊎◌, inl, inr}
-use Prim.Native.Nat.{ℕ, zero, suc, ◌+◌, ◌≤◌, ◌<◌}
+use Prim.Native.Nat.{ℕ, ◌+◌, ◌≤◌, ◌<◌}
 use native.Mathlib.Omega.{arith}
-use lib.ListN.{length}
-use Rattle.language.specs.Base.{Lexeme, choose, from_option, if_some, at_place, set_at}
-use Rattle.language.specs.Syntax.{Ty, int, dat, box, ref, mut}
-use Rattle.language.specs.Meaning.{Loc, Value, int_v, con_v, box_v, ref_v, hole, Values, nil_v, cons_v, Root, State, nth_v, put_v, at_path, put_path, read_at, write_at, live_root, with_roots, refs_to, list_of}
+use Rattle.language.specs.Base.{Lexeme, choose, if_some, at_place, set_at}
+use Rattle.language.specs.Syntax.{Ty}
+use Rattle.language.specs.Meaning.{Loc, Value, int_v, con_v, box_v, ref_v, hole, Values, Root, State, nth_v, at_path, put_path, read_at, live_root, with_roots}
 use Rattle.simulation.proofs.Machine.{Kit, Info}
-use Rattle.simulation.proofs.Memory.{no_some, some_is, same_or, at_put_same, at_put_other, at_old, Pl, Lay, Lays, total, Fits, copied, copied_all, Ext, Live, lives, live, flag_of, Owns, Sits, Mem, Kind, mem_words, mem_write, own_put}
+use Rattle.simulation.proofs.Memory.{no_some, some_is, same_or, at_put_same, at_put_other, Pl, Lay, Fits, Live, flag_of, Owns, Mem, mem_write}
 use Rattle.simulation.proofs.Paths.{field_off, Down, Goes, Inside, goes_at, goes_more, goes_put, But, Part, at_part, nth_part, DataLaid, data_laid}
 
 -- l is a place of type u, at address a, now

@@ -1,23 +1,22 @@
 -- State and machine; what it is to do what the meaning does; combinators.
-use mathlib.Core.Path.{◌≡◌, refl, sym, ap, subst, ◌∙◌}
-use mathlib.Core.Bool.{Bool, true, false, ◌&&◌, not}
+use mathlib.Core.Path.{◌≡◌, refl, ap, subst, ◌∙◌}
+use mathlib.Core.Bool.{Bool, true, false}
 use mathlib.Core.List.{List, [], ◌∷◌, ◌++◌}
 use mathlib.Core.Option.{Option, some, none}
 use mathlib.Core.Logic.{◌⊎◌, inl, inr}
-use Prim.Native.Nat.{ℕ, zero, suc, ◌+◌, ◌-◌, ◌*◌, ◌≤◌, ◌<◌}
+use Prim.Native.Nat.{ℕ, suc, ◌+◌, ◌≤◌, ◌<◌}
 use native.Mathlib.Omega.{arith}
-use lib.ListN.{length, drop}
-use lib.Dec.{eqb, ltb, leb, T, eqb→eq, eqb_refl}
-use Rattle.language.specs.Base.{Lexeme, choose, from_option, if_some, at_place, set_at, same}
-use Rattle.language.specs.Syntax.{Ty, int, dat, box, ref, mut, Prog}
-use Rattle.language.specs.Meaning.{Loc, Value, int_v, con_v, box_v, ref_v, hole, Values, nil_v, cons_v, Root, Class, State, Limits, Stop, wrong, out_of_fuel, no_heap, no_stack, no_turns, Res, ok, stop, then, need, turn, goes_under, Name, Env, root_of, with_roots, live_root, read_at, write_at, here, adds_root, kill, count_in, count_out, peaks, with_classes, with_under}
+use lib.Dec.{ltb, leb}
+use Rattle.language.specs.Base.{Lexeme, choose, at_place, same}
+use Rattle.language.specs.Syntax.{Ty}
+use Rattle.language.specs.Meaning.{Root, Class, State, Stop, wrong, out_of_fuel, no_heap, no_stack, no_turns, Res, ok, stop, then, need, turn, Name, Env, root_of, count_in, count_out, peaks}
 use Rattle.language.specs.Says.{shown_only}
 use Rattle.simulation.specs.Pooling.{InUse, words_same, one_taken, one_given, PoolsRight}
-use Rattle.simulation.proofs.Machine.{Kit, Info, Place, Pools, Taken, Instr, TURN, Mode, running, Mach, Next, go, halt, Outcome, ended, stopped, upd, copy, swap, sets, turned, does, Runs, Leads, leads_on, lead_one, halt_one}
-use Rattle.simulation.proofs.Lowering.{Slot, Sc, slot_of}
-use Rattle.simulation.proofs.Memory.{no_some, some_is, Pl, At, Lay, Fits, Ext, Live, lives, live, flag_of, Owns, Sits, Mem, Kind, upd_same, upd_other, Frame, frame_none, frame_less, frame_on}
+use Rattle.simulation.proofs.Machine.{Kit, Place, Pools, Taken, Instr, TURN, running, Mach, go, halt, stopped, turned, Runs, Leads, leads_on, lead_one, halt_one}
+use Rattle.simulation.proofs.Lowering.{Slot, slot_of}
+use Rattle.simulation.proofs.Memory.{no_some, some_is, Pl, Fits, Ext, Frame, frame_none, frame_less, frame_on}
 use Rattle.simulation.proofs.Boxes.{boxes, In}
-use Rattle.simulation.proofs.Context.{Flying, Dying, Ctx, Has, roots_in_dying, locs, awake, Core, Dead}
+use Rattle.simulation.proofs.Context.{Dying, Ctx, Has, awake, Core, Dead}
 use Rattle.simulation.specs.Borrows.{turned_state}
 
 -- what is asked of the pools: held by words that are in no box; sizes are those of types

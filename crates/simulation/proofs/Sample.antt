@@ -1,23 +1,21 @@
 -- What is asked can be met: a program that gives 7 is prepared and steady, and the machine runs to 7.
-use mathlib.Core.Path.{◌≡◌, refl, sym, ap, subst, ◌∙◌}
-use mathlib.Core.Bool.{Bool, true, false, not}
+use mathlib.Core.Path.{◌≡◌, refl, ap, subst, ◌∙◌}
+use mathlib.Core.Bool.{Bool, true, false}
 use mathlib.Core.List.{List, [], ◌∷◌, ◌++◌}
 use mathlib.Core.Option.{Option, some, none}
-use Prim.Native.Nat.{ℕ, zero, suc, ◌+◌, ◌≤◌, ◌<◌}
+use Prim.Native.Nat.{ℕ}
 use native.Mathlib.Omega.{arith}
-use lib.ListN.{length}
-use lib.Dec.{leb, T}
+use lib.Dec.{leb}
 use Rattle.language.specs.Base.{Lexeme, choose, same}
-use Rattle.language.specs.Syntax.{Ty, int, num, nil_s, body, give, Fn, Prog}
+use Rattle.language.specs.Syntax.{int, num, nil_s, body, give, Fn, Prog}
 use Rattle.language.specs.Checks.{fn_named, w_main}
-use Rattle.language.specs.Meaning.{Class, Limits, peaks, count_in, Value, int_v, State, Res, ok, Env, newer, blank, then, need, turn, goes_under, eval, run}
+use Rattle.language.specs.Meaning.{Class, peaks, count_in, int_v, State, Res, ok, Env, newer, blank, then, need, turn, goes_under, eval, run}
 use Rattle.simulation.specs.Borrows.{add_loc, SteadyCalls, SteadyEnds}
-use Rattle.simulation.specs.Machine.{Kit, Info, Place, Pools, Taken, Instr, MAIN, HALT, ended, Runs}
-use Rattle.simulation.specs.Lowering.{Entry, code_fn, Suf, same1, later}
-use Rattle.simulation.specs.Sizes.{Fits}
-use Rattle.simulation.specs.Pooling.{InUse, at_first, words_same, one_taken, one_given, PoolsRight}
-use Rattle.simulation.specs.Fitting.{Tables, Coded, CodedFn}
-use Rattle.simulation.specs.Says.{start, Halts, MainFn, Prepared, SteadyRun}
+use Rattle.simulation.specs.Machine.{Kit, Place, Pools, Instr, MAIN, HALT, ended, Runs}
+use Rattle.simulation.specs.Lowering.{Entry, code_fn, same1, later}
+use Rattle.simulation.specs.Pooling.{InUse, at_first, words_same, one_taken, one_given}
+use Rattle.simulation.specs.Fitting.{CodedFn}
+use Rattle.simulation.specs.Says.{start, Halts, Prepared, SteadyRun}
 use Rattle.simulation.proofs.Top.{run_words}
 use Rattle.simulation.proofs.Memory.{no_some, some_is}
 

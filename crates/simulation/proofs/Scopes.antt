@@ -1,19 +1,16 @@
 -- Scopes and names, one upon the other; jumps; how long code is.
-use mathlib.Core.Path.{◌≡◌, refl, sym, ap, subst, ◌∙◌}
-use mathlib.Core.Bool.{Bool, true, false, ◌&&◌, not}
-use mathlib.Core.List.{List, [], ◌∷◌, ◌++◌, append_assoc}
-use mathlib.Core.Option.{Option, some, none}
-use mathlib.Core.Logic.{◌⊎◌, inl, inr}
-use Prim.Native.Nat.{ℕ, zero, suc, ◌+◌, ◌-◌, ◌*◌, ◌/◌, ◌%◌, ◌≤◌, ◌<◌, max}
+use mathlib.Core.Path.{◌≡◌, refl, ap, subst, ◌∙◌}
+use mathlib.Core.List.{List, [], ◌∷◌, ◌++◌}
+use mathlib.Core.Option.{Option}
+use Prim.Native.Nat.{ℕ, zero, suc, ◌+◌, ◌-◌, ◌≤◌}
 use native.Mathlib.Omega.{arith}
 use lib.ListN.{length, drop}
-use lib.Dec.{eqb, ltb, leb, T}
-use Rattle.language.specs.Base.{Lexeme, choose, from_option, if_some, at_place, set_at, same}
-use Rattle.language.specs.Syntax.{Ty, int, dat, box, ref, mut, Expr, num, var, op, ctor, boxed, call, share, lend, load, get_e, Exprs, nil_e, cons_e, Access, take, view, edit, Stmt, bind, assign, store, put_s, cond, loop, match_s, open_s, inside, Stmts, nil_s, cons_s, Alts, no_alts, alt}
-use Rattle.language.specs.Meaning.{Name, Env, newer}
+use Rattle.language.specs.Base.{Lexeme}
+use Rattle.language.specs.Syntax.{Ty, Expr, num, var, op, ctor, boxed, call, share, lend, load, get_e, Exprs, nil_e, cons_e, Access, take, view, edit, Stmt, bind, assign, store, put_s, cond, loop, match_s, open_s, inside, Stmts, nil_s, cons_s, Alts, no_alts, alt}
+use Rattle.language.specs.Meaning.{Env, newer}
 use Rattle.simulation.proofs.Machine.{Kit, Instr, from_end}
-use Rattle.simulation.proofs.Lowering.{Slot, Sc, slot_of, slot_at, Entry, type_e, code_e, code_es, enter, after_s, after_ss, code_ends, newest_slots, newer_slots, closes, part_ty, code_parts, code_open, fields_of, alt_scope, code_s, code_ss, code_alts, Suf, same1, later, suf_trans, suf_e, suf_ends, suf_s, suf_ss}
-use Rattle.simulation.proofs.Memory.{Pl, Ext}
+use Rattle.simulation.proofs.Lowering.{Slot, Sc, slot_at, Entry, type_e, code_e, code_es, after_s, after_ss, code_ends, newest_slots, newer_slots, part_ty, code_parts, code_open, fields_of, alt_scope, code_s, code_ss, code_alts, Suf, same1, later}
+use Rattle.simulation.proofs.Memory.{Pl}
 use Rattle.simulation.proofs.Relation.{Names, no_names, one_name}
 use Rattle.simulation.specs.Borrows.{env_roots}
 

@@ -1,27 +1,25 @@
 -- Where work stands in a frame; reading and writing a name's root; the statement for expressions.
 use mathlib.Core.Path.{◌≡◌, refl, sym, ap, subst, ◌∙◌}
-use mathlib.Core.Bool.{Bool, true, false, ◌&&◌, not}
-use mathlib.Core.List.{List, [], ◌∷◌, ◌++◌, append_assoc}
-use mathlib.Core.Option.{Option, some, none}
-use mathlib.Core.Logic.{◌⊎◌, inl, inr}
-use Prim.Native.Nat.{ℕ, zero, suc, ◌+◌, ◌-◌, ◌*◌, ◌/◌, ◌%◌, ◌≤◌, ◌<◌, max}
+use mathlib.Core.Bool.{Bool, true, false, not}
+use mathlib.Core.List.{List, [], ◌∷◌}
+use mathlib.Core.Option.{Option, some}
+use Prim.Native.Nat.{ℕ, ◌+◌, ◌≤◌, ◌<◌}
 use native.Mathlib.Omega.{arith}
-use lib.ListN.{length, drop}
-use lib.Dec.{eqb, ltb, leb, T}
-use Rattle.language.specs.Base.{Lexeme, choose, from_option, if_some, at_place, set_at, same}
-use Rattle.language.specs.Syntax.{Ty, int, dat, box, ref, mut, Expr, num, var, op, ctor, boxed, call, share, lend, load, get_e, Exprs, nil_e, cons_e, Prog}
-use Rattle.language.specs.Checks.{owned, fn_named, types_of_pars}
-use Rattle.language.specs.Meaning.{Loc, Value, int_v, con_v, box_v, ref_v, hole, Values, nil_v, cons_v, Root, Class, State, Limits, Res, ok, stop, Name, Env, root_of, with_roots, live_root, read_at, write_at, here, words_of, num_of, loc_of, box_of, at_path, two_64, eval}
-use Rattle.simulation.proofs.Machine.{Kit, Info, Place, Pools, Instr, Mode, running, Mach, Next, go, halt, upd, sets, does, Leads}
-use Rattle.simulation.proofs.Lowering.{Slot, Sc, slot_of, Entry, type_e, code_e, high_e, Suf}
-use Rattle.simulation.proofs.Memory.{no_some, some_is, Pl, At, Lay, Fits, Ext, Live, lives, live, flag_of, Refers, Owns, Sits, Mem, Kind, upd_same, upd_other, copied, Frame, frame_words}
+use lib.Dec.{T}
+use Rattle.language.specs.Base.{Lexeme, choose, at_place, set_at, same}
+use Rattle.language.specs.Syntax.{Ty, int, dat, box, ref, mut, Expr, Exprs, Prog}
+use Rattle.language.specs.Checks.{owned}
+use Rattle.language.specs.Meaning.{Loc, Value, int_v, con_v, box_v, ref_v, hole, Values, Root, Class, State, Env, root_of, with_roots, live_root, read_at, write_at, here, words_of, num_of, loc_of, box_of, at_path, eval}
+use Rattle.simulation.proofs.Machine.{Kit, Info, Place, Pools, Instr, running, Mach, upd, sets}
+use Rattle.simulation.proofs.Lowering.{Slot, Entry, type_e, code_e, high_e, Suf}
+use Rattle.simulation.proofs.Memory.{no_some, some_is, Pl, Lay, Fits, Live, lives, flag_of, Refers, Sits, upd_same, upd_other, frame_words}
 use Rattle.simulation.proofs.Dying.{NotIn, live_hush}
-use Rattle.simulation.proofs.Boxes.{boxes, In}
+use Rattle.simulation.proofs.Boxes.{boxes}
 use Rattle.simulation.proofs.WordOps.{if_some_is}
 use Rattle.simulation.proofs.Pointers.{Spot}
 use Rattle.simulation.proofs.Context.{Flying, Dying, Ctx, Has, has_this, has_rest, roots_in_dying, locs, awake, with_flying, fly, Dead, Core, core_words, core_fly, core_unfly}
 use Rattle.simulation.specs.Borrows.{SteadyE}
-use Rattle.simulation.proofs.Relation.{Pooling, pl_of, Names, Keep, keep_low, keep_wide, Work, work_none, work_on, work_lower, Rep, Does, by_ok, by_stop}
+use Rattle.simulation.proofs.Relation.{Pooling, Names, Keep, keep_low, Work, work_on, Rep, Does}
 
 -- registers as they stand in a frame at rest
 pub record Base (M : Mach) (f1 s1 : ℕ) : Type 0 where

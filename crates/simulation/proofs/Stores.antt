@@ -1,32 +1,29 @@
 -- Names end; x = e and *r = e: the new value is in place while the old one is dropped.
 use mathlib.Core.Path.{◌≡◌, refl, sym, ap, subst, ◌∙◌}
-use mathlib.Core.Bool.{Bool, true, false, ◌&&◌, not}
-use mathlib.Core.List.{List, [], ◌∷◌, ◌++◌, append_assoc}
+use mathlib.Core.Bool.{Bool, true, false, not}
+use mathlib.Core.List.{List, [], ◌∷◌}
 use mathlib.Core.Option.{Option, some, none}
 use mathlib.Core.Logic.{◌⊎◌, inl, inr}
-use Prim.Native.Nat.{ℕ, zero, suc, ◌+◌, ◌-◌, ◌*◌, ◌/◌, ◌%◌, ◌≤◌, ◌<◌, max}
+use Prim.Native.Nat.{ℕ, zero, suc, ◌+◌, ◌≤◌, ◌<◌}
 use native.Mathlib.Omega.{arith}
-use lib.ListN.{length, drop}
-use lib.Dec.{eqb, ltb, leb, T}
-use Rattle.language.specs.Base.{Lexeme, choose, from_option, if_some, at_place, set_at, same}
-use Rattle.language.specs.Syntax.{Ty, int, dat, box, ref, mut, Expr, num, var, op, ctor, boxed, call, share, lend, load, get_e, Stmt, assign, store, Prog}
-use Rattle.language.specs.Checks.{owned}
-use Rattle.language.specs.Meaning.{Loc, Value, int_v, con_v, box_v, ref_v, hole, Values, nil_v, cons_v, Root, Class, State, Limits, Res, ok, stop, then, need, Name, Env, root_of, with_roots, live_root, read_at, write_at, here, kill, loc_of, there, words_of, at_path, put_path, eval, exec, ends, drops}
-use Rattle.simulation.proofs.Machine.{Kit, Info, Place, Pools, Instr, ASSIGN, STORE, END, STUCK, Mode, running, dropping, whole, Mach, Next, go, halt, upd, copy, swap, to_mode, behind, does, whole_step, Runs, Leads, leads_on, lead_one, lead_mode}
-use Rattle.simulation.proofs.Lowering.{Slot, Sc, slot_of, Entry, share_ty, type_e, code_e, high_e, code_ends, code_s, Suf, same1, later, suf_trans, suf_e}
-use Rattle.simulation.proofs.Memory.{no_some, some_is, Pl, At, Lay, Fits, Ext, Live, lives, live, flag_of, Refers, Owns, Sits, Mem, Kind, eqb_yes, upd_same, upd_other, copied, mem_words, mem_write, own_put, Frame, frame_words, frame_less, frame_on}
-use Rattle.simulation.proofs.Dying.{NotIn, hush_put}
-use Rattle.simulation.proofs.Boxes.{boxes, In, boxes_put, boxes_kill}
-use Rattle.simulation.proofs.WordOps.{if_some_is, choose_true, leb_says, leb_denies, copy_in, copy_under, copy_over, swap_low, swap_high, swap_off, swap_copy}
-use Rattle.simulation.proofs.Pointers.{Spot, Lies, at_spot, spot_reads}
-use Rattle.simulation.proofs.Context.{Flying, Dying, Ctx, Has, has_this, has_rest, roots_in_dying, locs, awake, awake_live, awake_not, with_flying, fly, Unseen, Core, core_words, core_put, core_unfly}
+use lib.Dec.{eqb, leb, T}
+use Rattle.language.specs.Base.{Lexeme, choose, from_option, set_at}
+use Rattle.language.specs.Syntax.{Ty, int, dat, box, ref, mut, Expr, num, var, op, ctor, boxed, call, share, lend, load, get_e, Prog}
+use Rattle.language.specs.Meaning.{Loc, Value, int_v, con_v, box_v, ref_v, hole, Values, Root, Class, State, Res, ok, then, with_roots, live_root, read_at, write_at, here, kill, there, words_of, at_path, put_path, eval, ends, drops}
+use Rattle.simulation.proofs.Machine.{Kit, Info, Place, Pools, Instr, END, Mode, running, dropping, whole, Mach, go, to_mode, Leads, lead_one, lead_mode}
+use Rattle.simulation.proofs.Lowering.{Slot, slot_of, Entry, share_ty, type_e, high_e, code_ends, same1, later, suf_trans}
+use Rattle.simulation.proofs.Memory.{no_some, some_is, Pl, Lay, Fits, Live, lives, flag_of, Owns, Mem, Kind, eqb_yes, mem_write, own_put, frame_less}
+use Rattle.simulation.proofs.Dying.{hush_put}
+use Rattle.simulation.proofs.Boxes.{boxes, In, boxes_kill}
+use Rattle.simulation.proofs.WordOps.{if_some_is, choose_true, leb_says, leb_denies}
+use Rattle.simulation.proofs.Context.{Dying, Ctx, roots_in_dying, locs, awake, awake_live, awake_not, Unseen}
 use Rattle.simulation.proofs.Changes.{core_end, gone_root}
-use Rattle.simulation.specs.Borrows.{SteadyEnds, SteadyDrop, SteadyS}
-use Rattle.simulation.proofs.Relation.{Pooling, pl_of, Names, no_names, one_name, names_ext, Found, found, Keep, keep_low, keep_wide, Work, work_none, work_on, work_lower, Rep, Does, by_ok, by_stop, back, does_then, does_need, does_as}
-use Rattle.simulation.proofs.Scopes.{Stack, stack_le}
-use Rattle.simulation.proofs.Stand.{Base, AllHeld, held_root, Under, Read, reads, Wrote, wrote, loc_is, not_ref, rep_unfly, Stand, FitE, After, EvalSim}
-use Rattle.simulation.proofs.Statements.{FitS, AfterS, AfterEnd, Ready, EndsSim, stand, no_more}
-use Rattle.simulation.proofs.Drops.{SameBut, Dropped, AfterDrop, Handed, Dropping, DropSim}
+use Rattle.simulation.specs.Borrows.{SteadyEnds, SteadyDrop}
+use Rattle.simulation.proofs.Relation.{Pooling, pl_of, no_names, one_name, names_ext, Keep, keep_low, keep_wide, Work, work_none, work_on, work_lower, Rep, Does, by_ok, by_stop, back, does_then, does_need, does_as}
+use Rattle.simulation.proofs.Scopes.{stack_le}
+use Rattle.simulation.proofs.Stand.{Base, Read, reads}
+use Rattle.simulation.proofs.Statements.{AfterEnd, EndsSim}
+use Rattle.simulation.proofs.Drops.{Dropped, AfterDrop, Handed, DropSim}
 
 pub flag_or : (v : Value) → (flag_of v ≡ 1) ⊎ (v ≡ hole)
 flag_or (int_v k) = inl refl
@@ -103,9 +100,9 @@ put_no (i ∷ q) hole new l nr nv e = subst is_ref e tt
 module _ (K : Kit) (F : Fits K) (P : Pools → (ℕ → ℕ) → List Class → List Place → Type 0) (Q : Pooling K P) (code : List Instr) (fns : Lexeme → Option Entry) (q : Prog) (dw : (k : Lexeme) (vs : Values) (i : Info) → K.info k ≡ some i → words_of q (con_v k vs) ≡ K.size (dat i.home)) where
   -- a value fits into what working it out takes
   pub size_high : (G : List Slot) (e : Expr) → K.size (type_e K fns G e) ≤ high_e K fns G e
-  size_high G (num x) = let z = F.one_Int in omega arith
+  size_high G (num x) = let z = F.one_int in omega arith
   size_high G (var x) = omega arith
-  size_high G (op o d e) = let z = F.one_Int in let y = size_high G d in let sw = F.some_word (type_e K fns G d) in omega arith
+  size_high G (op o d e) = let z = F.one_int in let y = size_high G d in let sw = F.some_word (type_e K fns G d) in omega arith
   size_high G (ctor c es) = omega arith
   size_high G (boxed e) = let z = F.one_box (type_e K fns G e) in let y = size_high G e in let sw = F.some_word (type_e K fns G e) in omega arith
   size_high G (call f es) = omega arith
@@ -119,15 +116,15 @@ module _ (K : Kit) (F : Fits K) (P : Pools → (ℕ → ℕ) → List Class → 
       one (mut t) = let z = F.one_ref t in omega arith
 
       by : (o : Option Slot) → K.size (from_option o int (λ l. share_ty l.ty)) ≤ 1
-      by none = let z = F.one_Int in omega arith
+      by none = let z = F.one_int in omega arith
       by (some l) = one l.ty
   size_high G (lend x) = by (slot_of G x)
     where
       by : (o : Option Slot) → K.size (from_option o int (λ l. mut l.ty)) ≤ 1
-      by none = let z = F.one_Int in omega arith
+      by none = let z = F.one_int in omega arith
       by (some l) = let z = F.one_mut l.ty in omega arith
-  size_high G (load x) = let z = F.one_Int in omega arith
-  size_high G get_e = let z = F.one_Int in omega arith
+  size_high G (load x) = let z = F.one_int in omega arith
+  size_high G get_e = let z = F.one_int in omega arith
 
   -- the whole was dropped: on in the frame
   pub rests : {Z : Ctx} {a z lo : ℕ} {L : List Pl} {rs : List Root} {M : Mach} {st : State} {N : Mach} → M.full ≡ M.sp → AfterDrop K F P Q code fns q dw Z a z whole lo L rs M st N → Leads K code N (to_mode N N.ctl N.words running)

@@ -1,30 +1,25 @@
 -- The whole run: the machine started at MAIN halts as the meaning says.
 use mathlib.Core.Path.{◌≡◌, refl, sym, ap, subst, ◌∙◌}
-use mathlib.Core.Bool.{Bool, true, false, ◌&&◌, not}
-use mathlib.Core.List.{List, [], ◌∷◌, ◌++◌, append_assoc}
-use mathlib.Core.Option.{Option, some, none}
-use mathlib.Core.Logic.{◌⊎◌, inl, inr}
-use Prim.Native.Nat.{ℕ, zero, suc, ◌+◌, ◌-◌, ◌*◌, ◌/◌, ◌%◌, ◌≤◌, ◌<◌, max}
+use mathlib.Core.List.{List, [], ◌∷◌}
+use mathlib.Core.Option.{Option, some}
+use Prim.Native.Nat.{ℕ, ◌+◌}
 use native.Mathlib.Omega.{arith}
-use lib.ListN.{length, drop}
-use lib.Dec.{eqb, ltb, leb, T}
-use Rattle.language.specs.Base.{Lexeme, choose, from_option, if_some, at_place, set_at, same}
+use Rattle.language.specs.Base.{Lexeme}
 use Rattle.language.specs.Syntax.{Ty, int, dat, box, ref, mut, Fn, Prog}
 use Rattle.language.specs.Checks.{fn_named, types_of_pars, w_main}
-use Rattle.language.specs.Meaning.{Value, int_v, con_v, box_v, ref_v, hole, Values, nil_v, cons_v, Root, Class, State, Limits, Stop, wrong, out_of_fuel, no_heap, no_stack, no_turns, Res, ok, stop, need, blank, with_under, frame, words_of, calls, run}
+use Rattle.language.specs.Meaning.{Value, int_v, con_v, box_v, ref_v, hole, Values, nil_v, Class, State, wrong, out_of_fuel, no_heap, no_stack, no_turns, Res, blank, frame, words_of, run}
 use Rattle.language.specs.Says.{shown_only}
 use Rattle.simulation.proofs.Machine.{Kit, Info, Place, Pools, Instr, MAIN, HALT, RETURN, Mode, running, Mach, Next, go, halt, Outcome, ended, stopped, copy, from_end, does, Runs, halts, Leads, lead_one, halt_one}
 use Rattle.simulation.proofs.Lowering.{Entry, Suf}
 use Rattle.simulation.proofs.Memory.{Pl, Lay, Lays, Fits, Ext, Live, Owns, Mem, total}
-use Rattle.simulation.proofs.Boxes.{boxes}
 use Rattle.simulation.proofs.WordOps.{copy_in}
-use Rattle.simulation.proofs.Context.{Ctx, Has, has_none, awake, Core}
+use Rattle.simulation.proofs.Context.{Ctx, has_none, Core}
 use Rattle.simulation.specs.Borrows.{SteadyCalls}
 use Rattle.simulation.proofs.Relation.{Pooling, Rep, Does, by_ok, by_stop}
 use Rattle.simulation.proofs.Scopes.{jump}
 use Rattle.simulation.proofs.Calls.{Coded, Gave, back_at, returned}
 use Rattle.simulation.proofs.Drops.{Tables}
-use Rattle.simulation.proofs.All.{Sims, all_sims}
+use Rattle.simulation.proofs.All.{all_sims}
 
 module _ (K : Kit) (F : Fits K) (P : Pools → (ℕ → ℕ) → List Class → List Place → Type 0) (Q : Pooling K P) (code : List Instr) (fns : Lexeme → Option Entry) (q : Prog) (dw : (k : Lexeme) (vs : Values) (i : Info) → K.info k ≡ some i → words_of q (con_v k vs) ≡ K.size (dat i.home)) where
   abbrev pub start : Pools → (ℕ → ℕ) → List ℕ → Mach
@@ -52,7 +47,7 @@ module _ (K : Kit) (F : Fits K) (P : Pools → (ℕ → ℕ) → List Class → 
     unfolding Z0
     whole_run steady = halting (Rattle.simulation.proofs.Relation.does_need K F P code (blank ins) (fn_named q.funs w_main) (λ fn ef.
         let M : Mach = start ps w ins in let H : ℕ = K.lent.heap in let X : ℕ = H + M.sp in
-        let mn = main fn ef in let er : K.size fn.ret ≡ 1 = ap K.size mn.1 ∙ F.one_Int in
+        let mn = main fn ef in let er : K.size fn.ret ≡ 1 = ap K.size mn.1 ∙ F.one_int in
         let ets : types_of_pars fn.pars ≡ [] = ap types_of_pars mn.0 in
         let none1 : (r j : ℕ) → Owns K [] [] r j → ⊥ = λ r j o. Rattle.simulation.proofs.Memory.no_some o.lives.is in
         let c0 : Core K Z0 H [] [] [] w = record {

@@ -1,18 +1,14 @@
 -- Tests; words copied and swapped.
 use mathlib.Core.Path.{◌≡◌, refl, sym, ap, subst, ◌∙◌}
 use mathlib.Core.Bool.{Bool, true, false, ◌&&◌, not}
-use mathlib.Core.List.{List, [], ◌∷◌, ◌++◌}
 use mathlib.Core.Option.{Option, some, none}
 use mathlib.Core.Logic.{◌⊎◌, inl, inr}
-use Prim.Native.Nat.{ℕ, zero, suc, ◌+◌, ◌-◌, ◌*◌, ◌≤◌, ◌<◌}
+use Prim.Native.Nat.{ℕ, suc, ◌+◌, ◌-◌, ◌≤◌, ◌<◌}
 use native.Mathlib.Omega.{arith}
-use lib.ListN.{length, drop}
-use lib.Dec.{eqb, ltb, leb, T, eqb→eq, eqb_refl, leb→le, le→leb, nleb→lt, eqb-suc-zero}
-use Rattle.language.specs.Base.{Lexeme, choose, from_option, if_some, at_place, set_at, same}
-use Rattle.language.specs.Syntax.{Ty, int, dat, box, ref, mut, Prog}
-use Rattle.language.specs.Meaning.{Loc, Value, int_v, con_v, box_v, ref_v, hole, Values, nil_v, cons_v, Root, Class, State}
-use Rattle.simulation.proofs.Machine.{Kit, Place, upd, copy, swap}
-use Rattle.simulation.proofs.Memory.{no_some, some_is, Pl, Live, Owns, Sits, Mem, Kind}
+use lib.Dec.{eqb, ltb, leb, T, eqb→eq, leb→le, le→leb, nleb→lt}
+use Rattle.language.specs.Base.{choose, if_some}
+use Rattle.simulation.proofs.Machine.{copy, swap}
+use Rattle.simulation.proofs.Memory.{no_some}
 
 pub is_true : (z : Bool) → T z → z ≡ true
 is_true true g = refl

@@ -1,13 +1,12 @@
 -- What the rules promise about references, along a run: D are the boxes that are being dropped, hs the roots whose references are
 -- of use, ls the references in operands. Where a value is written, moved or taken apart nobody of use points inside it;
 -- where a root ends nobody of use points to it; what is lent, opened and dropped is there.
-use Rattle.std.specs.Prelude.{◌≡◌, refl, Bool, true, false, List, [], ◌∷◌, ◌++◌, ℕ, zero, suc, ◌+◌, length, eqb}
-use Rattle.std.proofs.Common.{sym, ap, subst, ◌∙◌}
-use Rattle.std.proofs.Math.Option.{Option, some, none}
-use Rattle.language.specs.Base.{Lexeme, choose, if_some, at_place}
+use Rattle.std.specs.Prelude.{◌≡◌, true, false, List, [], ◌∷◌, ◌++◌, ℕ, zero, suc, ◌+◌, length, eqb}
+use Rattle.std.proofs.Math.Option.{some}
+use Rattle.language.specs.Base.{choose, if_some, at_place}
 use Rattle.language.specs.Syntax.{Expr, num, var, op, ctor, boxed, call, share, lend, load, get_e, Exprs, nil_e, cons_e, Access, take, view, edit, Stmt, bind, assign, store, put_s, cond, loop, match_s, open_s, inside, Stmts, nil_s, cons_s, Alts, Body, body, Tail, give, give_cond, give_match, Arms, Fn, Prog}
 use Rattle.language.specs.Checks.{fn_named, home_of, Home}
-use Rattle.language.specs.Meaning.{Loc, Value, int_v, con_v, box_v, ref_v, hole, Values, nil_v, cons_v, append, list_of, Root, State, Limits, Res, ok, Name, Env, root_of, read_at, write_at, here, adds_root, kill, with_under, frame, num_of, loc_of, box_of, there, place_of, newer, names_in, roots_in, names_of, parts, taken, Found, find_alt, FoundArm, find_arm, Shape, shape, shape_of, eval, evals, calls, bodies, tails, execs, block, exec, drops}
+use Rattle.language.specs.Meaning.{Loc, Value, int_v, con_v, box_v, ref_v, hole, Values, nil_v, cons_v, append, list_of, Root, State, Limits, ok, Env, root_of, read_at, write_at, here, adds_root, kill, with_under, frame, num_of, loc_of, box_of, there, place_of, newer, names_in, roots_in, names_of, parts, taken, Found, find_alt, FoundArm, find_arm, Shape, shape, shape_of, eval, evals, calls, tails, execs, block, exec, drops}
 
 -- a root that lives
 pub record Live (rs : List Root) (r : ℕ) (x : Root) : Type 0 where

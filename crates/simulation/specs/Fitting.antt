@@ -1,11 +1,11 @@
 -- What the rules give the lowering: types that are right, and room in the frame; and what is asked of the tables and of the code.
-use Rattle.std.specs.Prelude.{◌≡◌, Bool, true, false, List, [], ◌∷◌, ◌++◌, ℕ, zero, suc, ◌+◌, ◌≤◌, ◌<◌, length, eqb}
+use Rattle.std.specs.Prelude.{◌≡◌, true, false, List, [], ◌∷◌, ℕ, ◌+◌, ◌≤◌, ◌<◌, length, eqb}
 use Rattle.std.proofs.Math.Option.{Option, some, none}
-use Rattle.language.specs.Base.{Lexeme, choose, same}
+use Rattle.language.specs.Base.{Lexeme, same}
 use Rattle.language.specs.Syntax.{Ty, int, dat, box, ref, mut, Expr, num, var, op, ctor, boxed, call, share, lend, load, get_e, Exprs, nil_e, cons_e, Access, take, view, edit, Stmt, bind, assign, store, put_s, cond, loop, match_s, open_s, inside, Stmts, nil_s, cons_s, Alts, no_alts, alt, Body, body, Tail, give, give_cond, give_match, Arms, no_arms, arm, Fn, Prog}
 use Rattle.language.specs.Checks.{owned, fn_named, home_of, Home, types_of_pars}
 use Rattle.language.specs.Meaning.{two_64, frame}
-use Rattle.simulation.specs.Machine.{Kit, Info, Ent, Instr, RESUME, from_end}
+use Rattle.simulation.specs.Machine.{Kit, Info, Instr, RESUME, from_end}
 use Rattle.simulation.specs.Lowering.{Slot, Sc, slot_of, Entry, unboxed, type_e, high_e, after_s, after_ss, alt_scope, pars_scope, code_fn, Suf}
 
 -- the data that a match looks at

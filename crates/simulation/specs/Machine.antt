@@ -1,10 +1,9 @@
 -- The machine: words, instructions, a step; running to a halt.
-use Rattle.std.specs.Prelude.{◌≡◌, refl, Bool, true, false, ◌&&◌, List, [], ◌∷◌, ◌++◌, ℕ, zero, suc, ◌+◌, ◌-◌, ◌*◌, ◌≤◌, ◌<◌, length, drop, eqb, ltb, leb}
-use Rattle.std.proofs.Common.{sym, ap, subst, ◌∙◌, arith}
-use Rattle.std.proofs.Math.Option.{Option, some, none}
-use Rattle.language.specs.Base.{Lexeme, choose, from_option, at_place}
+use Rattle.std.specs.Prelude.{◌≡◌, ◌&&◌, List, [], ◌∷◌, ◌++◌, ℕ, suc, ◌+◌, ◌-◌, length, drop, eqb, ltb, leb}
+use Rattle.std.proofs.Math.Option.{Option}
+use Rattle.language.specs.Base.{Lexeme, choose, from_option}
 use Rattle.language.specs.Syntax.{Ty, int, dat, box, ref, mut}
-use Rattle.language.specs.Meaning.{Limits, Stop, wrong, out_of_fuel, no_heap, no_stack, no_turns, worked, next_read}
+use Rattle.language.specs.Meaning.{Limits, Stop, wrong, no_heap, no_stack, no_turns, worked, next_read}
 
 -- a constructor: its tag, its fields, its data, and where its fields begin in the table of entries
 pub record Info : Type 0 where

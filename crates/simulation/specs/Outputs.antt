@@ -1,5 +1,5 @@
 -- A machine whose output has room for so many words, against the one without a limit.
-use Rattle.std.specs.Prelude.{◌≡◌, List, [], ◌∷◌, ◌++◌, ◌⊎◌, ℕ, ◌≤◌, ◌<◌, length}
+use Rattle.std.specs.Prelude.{◌≡◌, List, ◌++◌, ◌⊎◌, ℕ, ◌≤◌, ◌<◌, length}
 use Rattle.simulation.specs.Machine.{Kit, Instr, Mach, go, halt, Outcome, step, Runs}
 
 -- room for cap words of output: the run as it is; or it's full, with what was shown up to the first that has no room

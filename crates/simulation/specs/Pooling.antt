@@ -1,7 +1,6 @@
 -- What is asked of the pools of boxes: which words are in use, that places are apart, when there is no more.
-use Rattle.std.specs.Prelude.{◌≡◌, Bool, true, false, List, [], ◌∷◌, ◌++◌, ◌⊎◌, ℕ, zero, suc, ◌+◌, ◌≤◌, ◌<◌, length, eqb, leb}
-use Rattle.std.proofs.Math.Option.{Option, some, none}
-use Rattle.language.specs.Base.{Lexeme, choose, if_some, at_place, same}
+use Rattle.std.specs.Prelude.{◌≡◌, true, false, List, [], ◌∷◌, ◌++◌, ℕ, ◌+◌, ◌≤◌, ◌<◌, leb}
+use Rattle.std.proofs.Math.Option.{some, none}
 use Rattle.language.specs.Syntax.{Ty}
 use Rattle.language.specs.Meaning.{Class, count_in, count_out, peaks}
 use Rattle.simulation.specs.Machine.{Kit, Place, Pools, Taken}

@@ -1,10 +1,10 @@
 -- The machine does what the meaning says.
 use Rattle.std.specs.Prelude.{◌≡◌, List, [], ◌∷◌, ℕ}
-use Rattle.std.proofs.Math.Option.{Option, some, none}
+use Rattle.std.proofs.Math.Option.{Option, some}
 use Rattle.language.specs.Base.{Lexeme}
-use Rattle.language.specs.Syntax.{Ty, int, dat, Fn, Prog}
+use Rattle.language.specs.Syntax.{int, dat, Fn, Prog}
 use Rattle.language.specs.Checks.{fn_named, w_main}
-use Rattle.language.specs.Meaning.{Value, int_v, con_v, Values, Stop, wrong, out_of_fuel, no_heap, no_stack, no_turns, Res, ok, stop, blank, words_of, run}
+use Rattle.language.specs.Meaning.{Value, int_v, con_v, Values, wrong, out_of_fuel, no_heap, no_stack, no_turns, Res, ok, stop, blank, words_of, run}
 use Rattle.language.specs.Says.{shown_only}
 use Rattle.simulation.specs.Machine.{Kit, Info, Pools, Instr, MAIN, HALT, running, Mach, ended, stopped, Runs}
 use Rattle.simulation.specs.Lowering.{Entry, Suf}

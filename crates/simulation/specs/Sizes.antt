@@ -1,7 +1,7 @@
 -- What is asked of the sizes of types.
-use Rattle.std.specs.Prelude.{◌≡◌, Bool, true, false, List, [], ◌∷◌, ◌++◌, ◌⊎◌, ℕ, zero, suc, ◌+◌, ◌≤◌, ◌<◌, length, eqb, leb}
-use Rattle.std.proofs.Math.Option.{Option, some, none}
-use Rattle.language.specs.Base.{Lexeme, choose, if_some, at_place, same}
+use Rattle.std.specs.Prelude.{◌≡◌, List, [], ◌∷◌, ℕ, ◌+◌, ◌≤◌}
+use Rattle.std.proofs.Math.Option.{some}
+use Rattle.language.specs.Base.{Lexeme}
 use Rattle.language.specs.Syntax.{Ty, int, dat, box, ref, mut}
 use Rattle.simulation.specs.Machine.{Kit, Info}
 

@@ -1,12 +1,11 @@
 -- A frame: the rules' names, the meaning's names and the entries of the stack, side by side.
-use Rattle.std.specs.Prelude.{true, false, List, [], ◌∷◌, ◌++◌, ◌⊎◌, ◌≡◌, ℕ, ◌+◌, ◌<◌, ◌-◌, length}
+use Rattle.std.specs.Prelude.{true, false, List, [], ◌∷◌, ◌++◌, ◌⊎◌, ◌≡◌, ℕ, ◌+◌, ◌<◌, length}
 use Rattle.std.proofs.Math.Option.{Option, some, none}
 use Rattle.language.specs.Base.{choose, Lexeme, same, is_in}
 use Rattle.language.specs.Syntax.{Ty, ref, mut}
 use Rattle.language.specs.Checks.{Loan, Var, loan, owned, look}
 use Rattle.language.specs.Checks as ch
 use Rattle.language.specs.Meaning.{Value, Values, append, nil_v, cons_v, Name}
-use Rattle.language.specs.Meaning as me
 use Rattle.language.specs.Meaning as me
 use Rattle.soundness.specs.Borrows.{In, LevelLoan, Kind, own, borrow, inert, loans_of}
 use Rattle.soundness.specs.Trees.{Tree, flat}

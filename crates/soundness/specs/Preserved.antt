@@ -1,5 +1,5 @@
 -- What every function of the meaning keeps, stated for each fuel.
-use Rattle.std.specs.Prelude.{true, List, [], ◌∷◌, ◌++◌, ◌≡◌, ℕ, ◌+◌, ◌<◌, length}
+use Rattle.std.specs.Prelude.{true, List, [], ◌∷◌, ◌++◌, ◌≡◌, ℕ, ◌<◌, length}
 use Rattle.std.proofs.Math.Option.{some}
 use Rattle.language.specs.Base.{Lexeme}
 use Rattle.language.specs.Syntax.{Ty, int, dat, mut, Expr, Exprs, Access, Stmt, Stmts, Alts, Body, Tail, Arms, Fn, Prog}

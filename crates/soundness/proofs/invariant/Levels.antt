@@ -8,7 +8,6 @@ use Prim.Native.Nat.{ℕ, suc}
 use native.Mathlib.Omega.{arith}
 use lib.ListN.{length}
 use Rattle.language.specs.Syntax.{Ty, Data}
-use Rattle.language.specs.Checks.{typed}
 use Rattle.language.specs.Meaning.{Value, Root}
 use Rattle.soundness.specs.Trees.{Tree, Typed}
 use Rattle.soundness.specs.Borrows.{Addr, Kind, own, borrow, inert, at_level, Anchored, WellBorrowed}

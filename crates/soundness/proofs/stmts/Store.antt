@@ -1,5 +1,4 @@
 -- The steps for x = e and *x = e: the new value goes in, what was there is dropped.
-use denote.Ref.{mut_at}
 use mathlib.Core.Bool.{true, false}
 use mathlib.Core.List.{List, [], ◌∷◌, ◌++◌}
 use mathlib.Core.Logic.{inl, inr}

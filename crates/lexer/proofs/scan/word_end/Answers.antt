@@ -1,5 +1,4 @@
-use Rattle.std.proofs.Common.{sym, append-nil, arith}
-use Rattle.lexer.proofs.Cut.{part_none}
+use Rattle.std.proofs.Common.{sym, arith}
 use Rattle.lexer.proofs.Runs.{run_grows, run_done, run_off, run_end}
 use Rattle.lexer.proofs.scan.word_end.Goals as goal
 

@@ -1,6 +1,5 @@
-use Rattle.std.proofs.Common.{◌≡◌, ℕ, ◌+◌, ◌<◌, ◌≤◌, List, length, get_or, set, sym, refl, ap, ◌∙◌, subst, arith, length-append, rules}
-use Rattle.memory.specs.declared.row.Memory.{Memory}
-use Rattle.memory.specs.Row.{heap_words, stack_words, row, Moved, Apart, SamePools}
+use Rattle.std.proofs.Common.{◌≡◌, ℕ, ◌+◌, ◌<◌, List, length, get_or, set, sym, ap, ◌∙◌, subst, arith, length-append}
+use Rattle.memory.specs.Row.{heap_words, stack_words, row, Moved}
 use Rattle.memory.proofs.Steps.{moved_more}
 use Rattle.memory.proofs.row.move_words.Goals as goal
 

@@ -1,4 +1,4 @@
-use Rattle.std.proofs.Common.{◌+◌, sym, ap, ◌∙◌, subst, arith}
+use Rattle.std.proofs.Common.{◌+◌, ap, ◌∙◌, subst, arith}
 use Rattle.lexer.specs.Spelling.{lexeme_at}
 use Rattle.names.specs.Table.{Stopped}
 use Rattle.names.proofs.Inserts.{sound_new, has_new, has_still}

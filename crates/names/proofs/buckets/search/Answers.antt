@@ -1,4 +1,4 @@
-use Rattle.std.proofs.Common.{◌≡◌, ◌+◌, ◌-◌, ◌%◌, length, get_or, sym, ap, ◌∙◌, subst, mod-lt, arith}
+use Rattle.std.proofs.Common.{◌≡◌, ◌-◌, ◌%◌, length, get_or, sym, ap, ◌∙◌, subst, mod-lt, arith}
 use Rattle.lexer.specs.Spelling.{lexeme_at, spelling}
 use Rattle.lexer.proofs.Same.{same_is}
 use Rattle.names.proofs.Walks.{next_up, next_round}
@@ -12,7 +12,7 @@ returns-then-entry-eq0 c =
     let table = c.args.table.now in
     let w = spelling text c.args.name in
     let inv = c.loop-step.invariant in
-    room_from text table w (c.hash_of.result % length table) c.loop-step.-step c.loop-step.i (ap (λ h. h % length table) c.hash_of.ensures) inv.0 c.if-entry-eq0.true inv.1 inv.2
+    room_from text table w (c.hash_of.result % length table) c.loop-step._step c.loop-step.i (ap (λ h. h % length table) c.hash_of.ensures) inv.0 c.if-entry-eq0.true inv.1 inv.2
 
 pub returns-then-same_name : goal.returns-then-same_name
 returns-then-same_name c =
@@ -29,13 +29,13 @@ loop-step-preserved c =
     let m = length table in
     let w = spelling text c.args.name in
     let start = c.hash_of.result % m in
-    let d = c.loop-step.-step in
+    let d = c.loop-step._step in
     let i = c.loop-step.i in
     let inv = c.loop-step.invariant in
     let here = passed text table w i c.if-entry-eq0.false (sym c.if-same_name.ensures) in (
-      elim c.if-i-table.branch [ then-i-table v ↦ omega (arith, v.i_is) | else-i-table v ↦ omega (arith, v.i_is, c.requires) ],
+      elim c.if-i-table.branch [ then-i-table v ↦ omega (arith, v.i-is) | else-i-table v ↦ omega (arith, v.i-is, c.requires) ],
       walk_on text table w start d i c.if-i-table.i inv.1
-          (elim c.if-i-table.branch [ then-i-table v ↦ next_up m i v.if-i-table.true ∙ sym v.i_is | else-i-table v ↦ next_round m i v.if-i-table.false ∙ sym v.i_is ]),
+          (elim c.if-i-table.branch [ then-i-table v ↦ next_up m i v.if-i-table.true ∙ sym v.i-is | else-i-table v ↦ next_round m i v.if-i-table.false ∙ sym v.i-is ]),
       passed_more text table w start d i inv.2 inv.1 here,
     )
 
@@ -45,5 +45,5 @@ returns c =
     let table = c.args.table.now in
     let w = spelling text c.args.name in
     let start = c.hash_of.result % length table in
-    let all : c.loop-step.-step ≡ length table = omega arith in
+    let all : c.loop-step._step ≡ length table = omega arith in
     all_taken text table w start (mod-lt c.hash_of.result c.requires) (subst (AllPassed text table w start) all c.loop-step.invariant.2)

@@ -1,4 +1,3 @@
-use Rattle.std.proofs.Common.{◌*◌, ◌≤◌, length}
 use Rattle.names.proofs.Going.{Going}
 use Rattle.names.proofs.pass.canonical.Given as goal
 

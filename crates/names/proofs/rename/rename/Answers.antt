@@ -1,6 +1,6 @@
 use Rattle.std.proofs.Common.{arith}
 use Rattle.names.proofs.Used.{used_all}
-use Rattle.names.proofs.Renames.{Operands, given}
+use Rattle.names.proofs.Renames.{given}
 use Rattle.names.proofs.rename.rename.Goals as goal
 
 pub returns-in_default : goal.returns-in_default

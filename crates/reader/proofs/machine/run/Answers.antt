@@ -52,7 +52,7 @@ standing {text} e ws s = record {
 below : Progress → Progress
 below at = record { height = at.height - 1; made = at.made }
 
-went : (c : goal.After-slice-known-in-Ok-1) →
+went : (c : goal.After-slice_known-in-Ok-1) →
     Going c.args.text.now c.perform-at.new.words c.args.base c.perform-at.result
     (tokens c.step.new.c)
     × (left_over c.args.text.now c.perform-at.new.words c.args.base c.perform-at.result

@@ -1,6 +1,5 @@
-use Rattle.std.proofs.Common.{◌≡◌, ℕ, ◌+◌, ◌-◌, ◌<◌, ◌≤◌, List, [], length, get_or, sym, refl, ap, ◌∙◌, subst, arith, length-set, rules}
-use Rattle.memory.specs.Place.{Place, first_or, total, of_size}
-use Rattle.memory.specs.Pooled.{Pooled}
+use Rattle.std.proofs.Common.{ℕ, ◌+◌, ◌-◌, ◌<◌, ◌≤◌, length, get_or, sym, refl, ap, ◌∙◌, subst, arith, length-set, rules}
+use Rattle.memory.specs.Place.{first_or, of_size}
 use Rattle.memory.proofs.Places.{first_in, got_free, got_new, refused}
 use Rattle.memory.proofs.pool.PoolsPool.take.Goals as goal
 
@@ -25,7 +24,7 @@ pub returns-then-k-self : goal.returns-then-k-self
 returns-then-k-self c =
     let r = c.requires.some.1.1.room in
     let n : length c.args.self.now.words.now < c.args.self.now.top + c.args.k.0 = omega arith in
-    record { takes = λ used free P. (let g = refused _ _ _ _ used free P c.requires.size.1 c.if-head-ne0.false n in (g.none-free, subst (λ (m : ℕ). length c.args.self.now.words.now < m + c.args.k.0) (sym P.filled) n, P)); same = (refl, refl) }
+    record { takes = λ used free P. (let g = refused _ _ _ _ used free P c.requires.size.1 c.if-head-ne0.false n in (g.none_free, subst (λ (m : ℕ). length c.args.self.now.words.now < m + c.args.k.0) (sym P.filled) n, P)); same = (refl, refl) }
 
 pub returns : goal.returns
 returns c =
