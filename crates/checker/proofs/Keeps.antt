@@ -61,7 +61,7 @@ mutual
   keeps_all (cons_e e es) p held g [] = tt
   keeps_all (cons_e e es) p held g (t ∷ ts) = each_if _ _ (expr p held g e) _ (keeps e p held g) (λ r h. each_only _ (same_ty r.ty t) _ (each_if _ _ (args p (r.loans ++ held) r.env es ts) _ (keeps_all es p (r.loans ++ held) r.env ts) (λ q k. k ∙ h)))
 
--- from-caller sees only the names without what's gone
+-- from_caller sees only the names without what's gone
 abbrev pub look_plain : List Name → Lexeme → Option Name
 look_plain [] x = none
 look_plain (v ∷ vs) x = choose (same v.name x) (some v) (look_plain vs x)

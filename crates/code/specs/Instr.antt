@@ -3,8 +3,8 @@ use Rattle.std.specs.Prelude.{ℕ, List, [], ◌∷◌, ◌++◌}
 use Rattle.language.specs.Base.{Lexeme}
 use Rattle.language.specs.Syntax.{Ty, int, dat, box, ref, mut, Expr, num, var, op, ctor, boxed, call, share, lend, load, get_e, Exprs, nil_e, cons_e, Access, Stmt, bind, assign, store, put_s, cond, loop, match_s, open_s, inside, Stmts, nil_s, cons_s, Alts, no_alts, alt, Body, body, Tail, give, give_cond, give_match, Arms, no_arms, arm, Ctor, Data, Param, Fn, Prog}
 
--- Operands stand before what is done with them, and each value is used by the instruction behind it: i-int ends a left operand and
--- i-arg an argument; i-make and i-call open a list of arguments, i-apply ends it.
+-- Operands stand before what is done with them, and each value is used by the instruction behind it: i_int ends a left operand and
+-- i_arg an argument; i_make and i_call open a list of arguments, i_apply ends it.
 pub data Instr : Type 0 where
   -- expressions
   i_num : ℕ → Instr
@@ -47,8 +47,8 @@ pub data Instr : Type 0 where
   i_ty_box : Instr
   i_ty_ref : Instr
   i_ty_mut : Instr
-  -- items: each field's type and i-field, i-ctor, .., i-data, with the function that is called when one is dropped, or [];
-  -- each parameter's type and i-param, the result's type, i-fn, the body, i-end-fn
+  -- items: each field's type and i_field, i_ctor, .., i_data, with the function that is called when one is dropped, or [];
+  -- each parameter's type and i_param, the result's type, i_fn, the body, i_end_fn
   i_field : Instr
   i_ctor : Lexeme → Instr
   i_data : Lexeme → Lexeme → Instr

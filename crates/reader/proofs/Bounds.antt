@@ -58,14 +58,14 @@ pub skipped : (ts : List Lexeme) → length (skip_one ts) ≤ length ts
 skipped [] = omega arith
 skipped (t ∷ ts) = omega arith
 
--- a test on the next token with skip-one behind it: at no token it is none of these words
+-- a test on the next token with skip_one behind it: at no token it is none of these words
 pub next : (P : Action → Type 0) (w0 : ℕ) (w : Lexeme) (ts : List Lexeme)
     (fun : List Lexeme → Action) {y : Action} → ((r : List Lexeme) → suc (length r) ≡ length ts → P (fun r)) →
     P y → P (choose (same (peek ts) (w0 ∷ w)) (fun (skip_one ts)) y)
 next P w0 w [] fun p q = q
 next P w0 w (t ∷ ts) fun p q = either P (same t (w0 ∷ w)) (p ts refl) q
 
--- a sign of a level, with skip-one behind it
+-- a sign of a level, with skip_one behind it
 pub next_sign : (P : Action → Type 0) (l : ℕ) (ts : List Lexeme) (fun : ℕ → List Lexeme → Action) {x : Action} →
     sign_on l [] ≡ none → P x → ((k : ℕ) (r : List Lexeme) → suc (length r) ≡ length ts → P (fun k r)) →
     P (from_option (sign_on l (peek ts)) x (λ k. fun k (skip_one ts)))

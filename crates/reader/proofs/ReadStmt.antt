@@ -50,7 +50,7 @@ arms_ok f ts o =
     ways F G (same (peek ts) sg_rc) (grind (arith, append-nil))
     (named F G is_upper ts _ _ refl (λ c l. grind (arith, append_assoc)))
 
--- what unfolds by itself, as read-statements (suc f), goes into these as a variable
+-- what unfolds by itself, as read_statements (suc f), goes into these as a variable
 body_leaf : (m : Option (Found Stmts)) (T : List Lexeme → Option (Found Tail)) (o : List Instr) →
     coded flat_body o (go_on m (λ ss l2. expect kw_give l2
     (λ l3. go_on (T l3) (λ t l4. expect sg_rc l4 (λ l5. found (body ss t) l5)))))

@@ -16,7 +16,7 @@ use Rattle.code.specs.Instr.{i_ty_mut, i_field, i_ctor, i_data, i_param, i_fn}
 abbrev pub Token : Type 0
 Token = Lexeme
 
--- s-emit gives an instruction out, s-token wants that token; each other is what the definition
+-- s_emit gives an instruction out, s_token wants that token; each other is what the definition
 -- reads at one place. X-on: what may stand behind one of X
 pub data Symbol : Type 0 where
   s_emit : Instr → Symbol

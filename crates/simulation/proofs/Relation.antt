@@ -92,7 +92,7 @@ module _ (K : Kit) (F : Fits K) (P : Pools → (ℕ → ℕ) → List Class → 
     pub outs : M.outs ≡ shown_only s.outs
 
   module _ (code : List Instr) where
-    -- how it halts, if the meaning tells: nothing of wrong and out-of-fuel
+    -- how it halts, if the meaning tells: nothing of wrong and out_of_fuel
     abbrev pub Tells : Mach → Stop → List ℕ → Type 0
     Tells M wrong os = Unit {0}
     Tells M out_of_fuel os = Unit {0}

@@ -17,7 +17,7 @@ use Rattle.simulation.specs.Fitting.{Tables, Coded}
 abbrev pub start : Kit → Pools → (ℕ → ℕ) → List ℕ → Mach
 start K ps w ins = record { ctl = MAIN w_main ∷ HALT ∷ []; mode = running; words = w; fb = K.lent.heap; sp = 0; full = 0; turns = 0; pool = ps; ins = ins; outs = [] }
 
--- how the machine halts, by what the meaning says; nothing is said of wrong and out-of-fuel
+-- how the machine halts, by what the meaning says; nothing is said of wrong and out_of_fuel
 abbrev pub Halts : Kit → List Instr → Mach → Res Value → Type 0
 Halts K code M (ok v s) = (k : ℕ) × ((v ≡ int_v k) × Runs K code M (ended k) (shown_only s.outs))
 Halts K code M (stop wrong s) = Unit {0}

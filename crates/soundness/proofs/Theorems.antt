@@ -1,4 +1,4 @@
--- The induction on fuel; Never-wrong and Nothing-left from it.
+-- The induction on fuel; NeverWrong and NothingLeft from it.
 use mathlib.Core.Bool.{true, false}
 use mathlib.Core.List.{List, [], ◌∷◌}
 use mathlib.Core.Option.{Option, some, none}
@@ -12,7 +12,7 @@ use Rattle.language.specs.Checks.{fn_named, types_of_pars, same_ty}
 use Rattle.language.specs.Checks as ch
 use Rattle.language.specs.Meaning.{Root, need, calls, blank}
 use Rattle.language.specs.Meaning as me
-use Rattle.language.specs.Says.{«NeverWrong», «NothingLeft», live_roots}
+use Rattle.language.specs.Says.{NeverWrong, NothingLeft, live_roots}
 use Rattle.soundness.specs.Invariant.{live_sum, is_box, Invariant}
 use Rattle.soundness.specs.Frames.{Arguments, no_args}
 use Rattle.soundness.specs.Preserved.{Safe, AfterCall, InvariantKept, RunSafe}
@@ -86,14 +86,14 @@ run_ok u m q ins o =
     ((preserved q m o u).calls_ok [] [] [] (blank ins) mn.0 me.nil_v (fns_ok q o ch.w_main mn.0 mn.1)
     (subst (λ z. Arguments [] z me.nil_v) (sym mn.2) no_args) (λ l i. absurd i) (first_world q ins)))
 
-pub never_wrong : «NeverWrong»
+pub never_wrong : NeverWrong
 never_wrong u m q ins s o e = stopped (subst (Safe (AfterCall q [] [] int 0)) e (run_ok u m q ins o))
 
 live_total : (i : ℕ) (rs : List Root) → live_sum (λ j w. 1) i rs ≡ live_roots rs
 live_total i [] = refl
 live_total i (r ∷ rs) = ap (λ z. choose r.live 1 0 + z) (live_total (suc i) rs)
 
-pub nothing_left : «NothingLeft»
+pub nothing_left : NothingLeft
 nothing_left u m q ins v s o e =
     let a : AfterCall q [] [] int 0 v s = ended (subst (Safe (AfterCall q [] [] int 0)) e (run_ok u m q ins o)) in
     let w = pop_int q.datas a.top [] a.T s v a.value_entry a.invariant in

@@ -40,7 +40,7 @@ pub record State : Type 0 where
   -- words under way, and turns made
   pub under : ℕ
   pub turns : ℕ
-  -- numbers to read, and what was shown; each number read leaves a mark there, two-64
+  -- numbers to read, and what was shown; each number read leaves a mark there, two_64
   pub ins : List ℕ
   pub outs : List ℕ
 

@@ -80,7 +80,7 @@ binding_like base ln g h v m e lk k =
       fresh = fresh_like g h v.name lk k.fresh;
     }
 
--- a name's entry in its frame: F is F1, the entry, F2; with another flag it is the frame of set-gone
+-- a name's entry in its frame: F is F1, the entry, F2; with another flag it is the frame of set_gone
 pub record Split (C : List Entry) (ln : List LevelLoan) (g : ch.Env) (d : me.Env) (F : List Entry) (x : Lexeme) (v : Var) : Type 0 where
   pub F1 : List Entry
   pub en : Entry

@@ -1,4 +1,4 @@
--- Enough-fuel: with so many turns left, and all below that settled, everything is settled; so a run is, of any program.
+-- EnoughFuel: with so many turns left, and all below that settled, everything is settled; so a run is, of any program.
 use mathlib.Core.Bool.{Bool, true, false}
 use mathlib.Core.List.{List, [], ◌∷◌}
 use mathlib.Core.Option.{Option, some}

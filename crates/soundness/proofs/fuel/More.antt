@@ -1,4 +1,4 @@
--- More-fuel: each function of the meaning, with more fuel, gives the same, or it was out of fuel.
+-- MoreFuel: each function of the meaning, with more fuel, gives the same, or it was out of fuel.
 use mathlib.Core.List.{List, [], ◌∷◌}
 use Prim.Native.Nat.{ℕ, ◌≤◌, zero-le, suc-le-suc}
 use Rattle.language.specs.Syntax.{Expr, num, var, op, ctor, boxed, call, share, lend, load, get_e, Exprs, Access, Stmt, Stmts, Alts, Body, Tail, Arms}

@@ -88,7 +88,7 @@ gather ds rs N A ts vs (x ∷ T) (snoc_arg {A = A1} {ts = ts1} {vs = vs1} e t v 
           fg.place in omega arith);
     }
 
--- the inverse of open-con
+-- the inverse of open_con
 pub make_con : (ds : List Data) (N A : List Entry) (ts : List Ty) (vs : Values) (T : List Tree) (s : State) (k : Lexeme) (h : Home)
     → home_of ds k ≡ some h → ts ≡ h.ctor1.fields → Arguments A ts vs → each_of owned ts ≡ true → Invariant ds (A ++ N) T s
     → (xs : Trees) × (U : List Tree) × (vs ≡ flats xs) × Invariant ds (owned_entry (con_t k xs) (dat h.data1.name) ∷ N) (con_t k xs ∷ U) s

@@ -1,4 +1,4 @@
--- The steps for matches: by-alt and by-shape, and the cases match of statements and of what is given.
+-- The steps for matches: by_alt and by_shape, and the cases match of statements and of what is given.
 use mathlib.Core.Bool.{true, false, ◌&&◌}
 use mathlib.Core.List.{List, [], ◌++◌}
 use mathlib.Core.Option.{Option, some}

@@ -1,4 +1,4 @@
--- Static: statements only add names on top of the names before them, which keep name, type and loans; what outer, both and no-more-gone say of flags.
+-- Static: statements only add names on top of the names before them, which keep name, type and loans; what outer, both and no_more_gone say of flags.
 use mathlib.Core.Bool.{Bool, true, false, ◌||◌, not}
 use mathlib.Core.List.{List, [], ◌∷◌, ◌++◌, append_assoc}
 use mathlib.Core.Option.{Option, some, none}
