@@ -1,7 +1,7 @@
-#![tactic(auto)]
-
 // Lists the names of a text as code, before and after each spelling got one place. With an argument it counts the names of that file
 // and their spellings.
+#![tactic(auto)]
+
 use code::{Instr, Listing};
 use lexer::{Lexer, Token};
 use names::canonical;

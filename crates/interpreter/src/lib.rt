@@ -1,6 +1,6 @@
+// Any text of the language, run on trees: slow and plain, and looking at every step whether something is there.
 #![tactic(auto)]
 
-// Any text of the language, run on trees: slow and plain, and looking at every step whether something is there.
 mod drops;
 mod eval;
 mod exec;

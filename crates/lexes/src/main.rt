@@ -1,7 +1,7 @@
-#![tactic(auto)]
-
 // Counts the tokens of hostile texts: no byte, every byte, long tokens, comments that do not end. With an argument it counts those of
 // that file.
+#![tactic(auto)]
+
 use std::alloc::{AllocError, Global};
 use std::{env, fs};
 

@@ -1,6 +1,6 @@
+// Memory lent to a run: words for boxes, in pools by size; words for what is under way; and turns, as a budget.
 #![tactic(auto)]
 
-// Memory lent to a run: words for boxes, in pools by size; words for what is under way; and turns, as a budget.
 pub mod budget;
 pub mod pool;
 pub mod row;

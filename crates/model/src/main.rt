@@ -1,7 +1,7 @@
-#![tactic(auto)]
-
 // Runs a text of the language on trees: `model FILE [--heap WORDS] [--stack WORDS] [--turns N] [--out N] [--depth N]`.
 // Numbers to read come from standard input, and each number shown goes onto a line of standard output.
+#![tactic(auto)]
+
 use anyhow::anyhow;
 use interpreter::input::numbers;
 use interpreter::run::{Limits, Outcome, run_text};

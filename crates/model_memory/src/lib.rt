@@ -1,6 +1,6 @@
+// What a run on trees is made of: values, roots, boxes by size, names in scope, and how many words things take.
 #![tactic(auto)]
 
-// What a run on trees is made of: values, roots, boxes by size, names in scope, and how many words things take.
 pub mod arith;
 pub mod memory;
 pub mod meter;

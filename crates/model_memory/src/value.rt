@@ -65,7 +65,7 @@ pub enum Parts {
 }
 
 impl Drop for Value {
-    #[cycle(drop_drop)]
+    #[cycle(value_drops)]
     fn drop(self) {
         match self {
             Value::Number(_) | Value::Box(_) | Value::Hole => {}
@@ -78,7 +78,7 @@ impl Drop for Value {
 }
 
 impl Drop for Fields {
-    #[cycle(drop_drop)]
+    #[cycle(value_drops)]
     fn drop(self) {
         match self {
             Fields::NoFields => {}
@@ -117,7 +117,7 @@ impl Value {
         Ok(Value::Data(ctor, below, Box::new(heap, fields)?))
     }
 
-    #[cycle(copy_copy)]
+    #[cycle(value_copies)]
     pub fn copy(&self, heap: Global) -> Result<Value, Stop> {
         match self {
             Value::Number(k) => Ok(Value::Number(*k)),
@@ -147,7 +147,7 @@ impl Value {
     }
 
     // Puts a value at the path, and gives what was there.
-    #[cycle(replace_replace)]
+    #[cycle(value_replaces)]
     pub fn replace(&mut self, path: &[usize], new: Value) -> Result<Value, Stop> {
         if path.is_empty() {
             return Ok(mem::replace(self, new));
@@ -220,7 +220,7 @@ impl Fields {
         }
     }
 
-    #[cycle(copy_copy)]
+    #[cycle(value_copies)]
     pub fn copy(&self, heap: Global) -> Result<Fields, Stop> {
         match self {
             Fields::NoFields => Ok(Fields::NoFields),
@@ -232,7 +232,7 @@ impl Fields {
         }
     }
 
-    #[cycle(replace_replace)]
+    #[cycle(value_replaces)]
     pub fn replace(&mut self, index: usize, path: &[usize], new: Value) -> Result<Value, Stop> {
         match self {
             Fields::NoFields => Err(Stop::Wrong),

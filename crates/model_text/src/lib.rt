@@ -1,6 +1,6 @@
+// Texts of the language read into trees, by a reading of the model's own.
 #![tactic(auto)]
 
-// Texts of the language read into trees, by a reading of the model's own.
 mod cursor;
 pub mod fault;
 pub mod parse;

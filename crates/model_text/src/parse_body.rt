@@ -97,7 +97,7 @@ fn matched(cursor: &mut Cursor) -> Result<Name, Fault> {
     Ok(name)
 }
 
-#[cycle(block_conditional_looping_matching_statement_statements)]
+#[cycle(nested_statements)]
 fn conditional(cursor: &mut Cursor, depth: usize) -> Result<Stmt, Fault> {
     let test = expression(cursor)?;
     let yes = block(cursor, depth)?;
@@ -106,14 +106,14 @@ fn conditional(cursor: &mut Cursor, depth: usize) -> Result<Stmt, Fault> {
     Ok(Stmt::If(test, yes, no))
 }
 
-#[cycle(block_conditional_looping_matching_statement_statements)]
+#[cycle(nested_statements)]
 fn looping(cursor: &mut Cursor, depth: usize) -> Result<Stmt, Fault> {
     let test = expression(cursor)?;
     let does = block(cursor, depth)?;
     Ok(Stmt::While(test, does))
 }
 
-#[cycle(block_conditional_looping_matching_statement_statements)]
+#[cycle(nested_statements)]
 fn matching(cursor: &mut Cursor, depth: usize, way: Access) -> Result<Stmt, Fault> {
     let name = matched(cursor)?;
     let mut ways = Vec::new(cursor.heap);
@@ -130,7 +130,7 @@ fn matching(cursor: &mut Cursor, depth: usize, way: Access) -> Result<Stmt, Faul
     Ok(Stmt::Match(way, name, alts))
 }
 
-#[cycle(block_conditional_looping_matching_statement_statements)]
+#[cycle(nested_statements)]
 fn statement(cursor: &mut Cursor, depth: usize) -> Result<Stmt, Fault> {
     let token = cursor.next();
     if let Some(way) = access(token) {
@@ -156,7 +156,7 @@ fn statement(cursor: &mut Cursor, depth: usize) -> Result<Stmt, Fault> {
 }
 
 // Statements up to } or give, which stay.
-#[cycle(block_conditional_looping_matching_statement_statements)]
+#[cycle(nested_statements)]
 fn statements(cursor: &mut Cursor, depth: usize) -> Result<Span, Fault> {
     let mut items = Vec::new(cursor.heap);
     for _ in 0..u64::MAX {
@@ -170,7 +170,7 @@ fn statements(cursor: &mut Cursor, depth: usize) -> Result<Span, Fault> {
     append(&mut cursor.nodes.stmts, &items)
 }
 
-#[cycle(block_conditional_looping_matching_statement_statements)]
+#[cycle(nested_statements)]
 fn block(cursor: &mut Cursor, depth: usize) -> Result<Span, Fault> {
     if depth == 0 {
         return Err(Fault::TooDeep);
@@ -181,7 +181,7 @@ fn block(cursor: &mut Cursor, depth: usize) -> Result<Span, Fault> {
     Ok(does)
 }
 
-#[cycle(body_giving_if_giving_match_tail)]
+#[cycle(nested_bodies)]
 fn giving_if(cursor: &mut Cursor, depth: usize) -> Result<Tail, Fault> {
     let test = expression(cursor)?;
     let yes = body(cursor, depth)?;
@@ -190,7 +190,7 @@ fn giving_if(cursor: &mut Cursor, depth: usize) -> Result<Tail, Fault> {
     Ok(Tail::GiveIf(test, yes, no))
 }
 
-#[cycle(body_giving_if_giving_match_tail)]
+#[cycle(nested_bodies)]
 fn giving_match(cursor: &mut Cursor, depth: usize, way: Access) -> Result<Tail, Fault> {
     let name = matched(cursor)?;
     let mut ways = Vec::new(cursor.heap);
@@ -209,7 +209,7 @@ fn giving_match(cursor: &mut Cursor, depth: usize, way: Access) -> Result<Tail, 
 }
 
 // Behind give.
-#[cycle(body_giving_if_giving_match_tail)]
+#[cycle(nested_bodies)]
 fn tail(cursor: &mut Cursor, depth: usize) -> Result<Tail, Fault> {
     if cursor.is_at_keyword(Keyword::If) {
         cursor.skip();
@@ -222,7 +222,7 @@ fn tail(cursor: &mut Cursor, depth: usize) -> Result<Tail, Fault> {
     Ok(Tail::Give(expression(cursor)?))
 }
 
-#[cycle(body_giving_if_giving_match_tail)]
+#[cycle(nested_bodies)]
 pub fn body(cursor: &mut Cursor, depth: usize) -> Result<BodyId, Fault> {
     if depth == 0 {
         return Err(Fault::TooDeep);

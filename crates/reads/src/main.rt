@@ -1,7 +1,7 @@
-#![tactic(auto)]
-
 // Reads hostile texts: none may crash, whatever they hold and however deep they nest. With an argument it reads that file, and with
 // `list` before it the code is listed.
+#![tactic(auto)]
+
 use anyhow::anyhow;
 use code::Listing;
 use reader::{ReadError, least_words, read};

@@ -1,7 +1,7 @@
-#![tactic(auto)]
-
 // Runs the texts that its arguments name: with as much as each takes, and with one less of each thing that it takes. What a text reads
 // stands at its head, behind `# reads:`.
+#![tactic(auto)]
+
 use anyhow::anyhow;
 use interpreter::input::numbers;
 use interpreter::run::{Limits, Outcome, run_text};

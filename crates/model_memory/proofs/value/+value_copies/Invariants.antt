@@ -1,6 +1,6 @@
 use Rattle.model_memory.proofs.value.Fields.TheLaws.{the_size as size-Fields}
 use Rattle.model_memory.proofs.value.Value.TheLaws.{the_size as size-Value}
-use Rattle.model_memory.proofs.value.+copy_copy.Given as goal
+use Rattle.model_memory.proofs.value.+value_copies.Given as goal
 
 abbrev pub decreases-Fields::copy : goal.decreases-Fields::copy
 decreases-Fields::copy l = size-Fields l.self.now

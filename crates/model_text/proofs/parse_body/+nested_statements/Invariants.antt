@@ -1,5 +1,5 @@
 use Rattle.std.proofs.Common.{◌+◌, ◌*◌}
-use Rattle.model_text.proofs.parse_body.+block_conditional_looping_matching_statement_statements.Given as goal
+use Rattle.model_text.proofs.parse_body.+nested_statements.Given as goal
 
 abbrev pub decreases-block : goal.decreases-block
 decreases-block l = 4 * l.depth + 0

@@ -1,5 +1,5 @@
 use Rattle.std.proofs.Common.{◌+◌, ◌*◌}
-use Rattle.model_text.proofs.parse_body.+body_giving_if_giving_match_tail.Given as goal
+use Rattle.model_text.proofs.parse_body.+nested_bodies.Given as goal
 
 abbrev pub decreases-body : goal.decreases-body
 decreases-body l = 3 * l.depth + 0
