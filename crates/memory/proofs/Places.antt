@@ -195,6 +195,10 @@ used_under ws hs top p one two free P =
     let v = under_out top p one (two ++ free) (subst (λ (l : List Place). Under top l) (append_assoc one (p ∷ two) free) P.under) in
     let b = v.1 in let r = P.room in (v.0, omega arith)
 
+-- a used place begins within the words
+pub used_inside : (ws hs : List ℕ) (top : ℕ) (p : Place) (one two free : List Place) → Pooled ws hs top (one ++ (p ∷ two)) free → p.at < length ws
+used_inside ws hs top p one two free P = let u = used_under ws hs top p one two free P in let a = u.0 in let b = u.1 in omega arith
+
 pub gave : (ws hs : List ℕ) (top a k : ℕ) (one two free : List Place) → k < length hs → Pooled ws hs top (one ++ (place a k ∷ two)) free → Pooled (set ws a (get_or hs k 0)) (set hs k (a + 1)) top (one ++ two) (place a k ∷ free)
 gave ws hs top a k one two free kl P =
     let p : Place = place a k in

@@ -1,19 +1,15 @@
-use Rattle.std.proofs.Common.{◌<◌, length, arith, length-set, get_or-set_other, rules}
-use Rattle.memory.proofs.Places.{used_under, gave}
+use Rattle.std.proofs.Common.{length-set, get_or-set_other, rules}
+use Rattle.memory.proofs.Places.{used_inside, gave}
 use Rattle.memory.proofs.pool.PoolsPool.give_back.Goals as goal
 
 pub offset_bounds-self-a : goal.offset_bounds-self-a
-offset_bounds-self-a c =
-    let u = used_under _ _ _ _ _ _ _ c.requires.used.1.1.1 in let a = u.0 in let b = u.1 in
-    let h : c.args.a.0 < length c.args.self.now.words.now = omega arith in search rules
+offset_bounds-self-a c = let h = used_inside _ _ _ _ _ _ _ c.requires.used.1.1.1 in search rules
 
 pub bounds-self-a : goal.bounds-self-a
-bounds-self-a c = let u = used_under _ _ _ _ _ _ _ c.requires.used.1.1.1 in let a = u.0 in let b = u.1 in omega arith
+bounds-self-a c = used_inside _ _ _ _ _ _ _ c.requires.used.1.1.1
 
 pub overflow_add-self : goal.overflow_add-self
-overflow_add-self c =
-    let u = used_under _ _ _ _ _ _ _ c.requires.used.1.1.1 in let a = u.0 in let b = u.1 in
-    let h : c.args.a.0 < length c.args.self.now.words.now = omega arith in search rules
+overflow_add-self c = let h = used_inside _ _ _ _ _ _ _ c.requires.used.1.1.1 in search rules
 
 pub returns : goal.returns
 returns c = record { gives = λ one two free P. gave _ _ _ _ _ one two free c.requires.size P; other = λ i ne. get_or-set_other _ _ i _ 0 ne; same = (simp length-set, simp length-set) }
