@@ -5,6 +5,7 @@ mod classify;
 mod lexer;
 mod name;
 mod scan;
+mod shown;
 mod spell;
 mod token;
 mod word;

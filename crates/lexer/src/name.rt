@@ -1,3 +1,3 @@
 // A name of a program: the place in the text where its spelling starts.
-#[derive(Clone, Copy, PartialEq, Eq, Debug)]
+#[derive(Clone, Copy, PartialEq, Eq, PartialOrd, Ord, Debug)]
 pub struct Name(pub usize);

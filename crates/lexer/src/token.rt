@@ -1,7 +1,7 @@
 use crate::name::Name;
 
 // The reserved words.
-#[derive(Clone, Copy)]
+#[derive(Clone, Copy, PartialEq, Eq, Debug)]
 pub enum Keyword {
     Data,
     Drop,
@@ -26,7 +26,7 @@ pub enum Keyword {
 }
 
 // What is neither a word nor a number.
-#[derive(Clone, Copy)]
+#[derive(Clone, Copy, PartialEq, Eq, Debug)]
 pub enum Sign {
     LeftParen,
     RightParen,
@@ -48,7 +48,7 @@ pub enum Sign {
 }
 
 // A token. BadNumber begins with a digit and has no value below 2^64; Other is a byte that stands for nothing.
-#[derive(Clone, Copy)]
+#[derive(Clone, Copy, PartialEq, Eq, Debug)]
 pub enum Token {
     Reserved(Keyword),
     Mark(Sign),
