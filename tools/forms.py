@@ -4,12 +4,14 @@
     python3 tools/forms.py            counts for each point and crate
     python3 tools/forms.py -v POINT   the places of one point, as file:line: text
 
+The folder of crates is this checkout's, or the one that CRATES in the environment names (a commit's, unpacked by git archive).
+
 A place is one match of a pattern; what a pattern can't tell (whether a form is meant) is told in docs/DESIGN-PASS.md.
 """
 import os, re, sys
 from collections import defaultdict
 
-ROOT = os.path.join(os.path.dirname(os.path.abspath(__file__)), '..', 'crates')
+ROOT = os.environ.get('CRATES') or os.path.join(os.path.dirname(os.path.abspath(__file__)), '..', 'crates')
 
 def sources():
     for crate in sorted(os.listdir(ROOT)):
@@ -23,10 +25,10 @@ PATTERNS = {
     '1-option': [r'let (?:Some|Ok)\([^)]*\) =[^;]*? else \{\s*return (?:None|Err\([^;]*\)|Ok\(None\));\s*\}',
                  r'\n\s*None\s*=>\s*(?:None|false|true|Err\([^\n]*\)|0|1|\w+::\w+),?(?=\n)',
                  r'if let Err\((\w+)\) = [^{]*\{\s*return Err\(\1\);\s*\}'],
-    # numbers for kinds: an arm of a match on a number
-    '1-code': [r'fn \w+[^{]*?\n?(?:[^{]*?)\{[^}]*?match [^{]*\{\s*\d+ =>'],
+    # numbers for kinds: the first arm of a match on a number
+    '1-code': [r'match [^{\n]*\{\n\s*\d+ =>'],
     # a flag in a struct
-    '1-flag': [r'\n\s+(?:pub )?\w+: bool,(?=\n)(?![^\n]*\)\s*->)'],
+    '1-flag': [r'\n    (?:pub )?\w+: bool,(?=\n(?:    [^\n]*\n)*\}\n)'],
     # Option in Option
     '1-nested': [r'-> Option<Option<'],
     # loops by hand: a counter in a while, a range that only indexes
@@ -80,6 +82,13 @@ def main():
         counts = defaultdict(int)
         for crate, _ in places(point): counts[crate] += 1
         print(f'{point:10} {sum(counts.values()):4}  ' + ', '.join(f'{c} {counts[c]}' for c in crates if counts[c]))
+    def answers(crate):
+        for folder, _, names in os.walk(os.path.join(ROOT, crate, 'proofs')):
+            for name in names:
+                if name == 'Answers.antt':
+                    yield from re.findall(r'^pub .*', open(os.path.join(folder, name)).read(), re.M)
+    counts = {c: len(list(answers(c))) for c in crates}
+    print(f'{"8-answer":10} {sum(counts.values()):4}  ' + ', '.join(f'{c} {n}' for c, n in counts.items() if n))
     for name, table in (('5-clause', clauses), ('5-pair', params)):
         counts = defaultdict(int)
         for k in table: counts[k[0]] += 1
