@@ -1,9 +1,10 @@
 -- Lexemes that are signs, by their length.
-use Rattle.std.proofs.Common.{◌≡◌, ℕ, Bool, true, false, ◌&&◌, eqb, [], ◌∷◌, length, get_or, Option as Maybe, refl, subst, arith, MatchOption}
+use Rattle.std.proofs.Common.{◌≡◌, ℕ, Bool, true, false, ◌&&◌, eqb, [], ◌∷◌, length, get_or, Option as Maybe, refl, ap, subst, arith, MatchOption}
 use Rattle.language.specs.Base.{Lexeme, same, is_in}
 use Rattle.language.specs.Text.{sg_is}
 use Rattle.lexer.specs.Tokens.{drawn, signs}
 use Rattle.lexer.specs.declared.token.Sign.{Sign}
+use Rattle.lexer.proofs.Same.{same_is}
 
 pub only_byte : (w : Lexeme) → length w ≡ 1 → get_or w 0 0 ∷ [] ≡ w
 only_byte [] e = absurd (omega arith)
@@ -26,3 +27,7 @@ no_sign [] n e = refl
 no_sign (b ∷ []) n e = absurd (n refl)
 no_sign (a ∷ b ∷ w) n e =
     rw (not_one a b 40 w, not_one a b 41 w, not_one a b 123 w, not_one a b 125 w, not_one a b 44 w, not_one a b 59 w, not_one a b 58 w, not_one a b 124 w, not_one a b 61 w, not_one a b 38 w, not_one a b 42 w, e, not_one a b 60 w, not_one a b 43 w, not_one a b 45 w, not_one a b 47 w, not_one a b 37 w)
+
+-- no longer lexeme, and no other of two bytes, is the sign of two
+pub same_long : (w : Lexeme) → same w sg_is ≡ true → (length w ≡ 2) × (get_or w 0 0 ≡ 61) × (get_or w 1 0 ≡ 61)
+same_long w e = let is : w ≡ sg_is = same_is w sg_is e in (ap length is, ap (λ v. get_or v 0 0) is, ap (λ v. get_or v 1 0) is)

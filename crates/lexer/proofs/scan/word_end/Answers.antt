@@ -1,28 +1,17 @@
-use Rattle.std.proofs.Common.{sym, arith}
-use Rattle.lexer.proofs.Runs.{run_grows, run_done, run_off, run_end}
+use Rattle.std.proofs.Common.{◌+◌, ◌≤◌, length, ◌∙◌, rules, arith}
+use Rattle.lexer.proofs.Runs.{rest_length, run_to}
 use Rattle.lexer.proofs.scan.word_end.Goals as goal
 
-pub loop-end-preserved : goal.loop-end-preserved
-loop-end-preserved c =
-    let text = c.args.text.now in
-    let i = c.args.start in
-    let j = c.loop-end.end in
-    (omega arith, omega arith, run_grows text i j c.loop-end.invariant.0 c.loop-end-test.true (sym c.if-in_word.ensures) c.loop-end.invariant.2)
+pub overflow_add-result : goal.overflow_add-result
+overflow_add-result c =
+    let rest = rest_length c.args.text.now c.args.start c.requires in
+    let within : c.args.start + c.word_length.result ≤ length c.args.text.now = omega (arith, c.word_length.ensures, rest.0, rest.1) in
+    search rules
 
-pub returns-else-in_word : goal.returns-else-in_word
-returns-else-in_word c =
-    let text = c.args.text.now in
-    let j = c.loop-end.end in
-    record {
-      within = (c.loop-end.invariant.0, c.loop-end.invariant.1);
-      run = run_done text c.args.start j (run_off text j c.loop-end-test.true (sym c.if-in_word.ensures)) c.loop-end.invariant.2;
-    }
+pub returns-clause-within : goal.returns-clause-within
+returns-clause-within c =
+    let rest = rest_length c.args.text.now c.args.start c.requires in
+    (omega arith, omega (arith, c.word_length.ensures, rest.0, rest.1))
 
-pub returns-after-loop-end : goal.returns-after-loop-end
-returns-after-loop-end c =
-    let text = c.args.text.now in
-    let j = c.loop-end.end in
-    record {
-      within = (c.loop-end.invariant.0, c.loop-end.invariant.1);
-      run = run_done text c.args.start j (run_end text j c.loop-end-test.false) c.loop-end.invariant.2;
-    }
+pub returns-clause-run : goal.returns-clause-run
+returns-clause-run c = run_to c.args.text.now c.args.start _ (c.word_length.ensures ∙ (rest_length c.args.text.now c.args.start c.requires).0)
