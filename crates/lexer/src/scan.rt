@@ -38,7 +38,8 @@ pub fn skip_blanks(text: &[u8], start: usize) -> usize
 
 // How many word bytes stand at the front.
 pub fn word_length(bytes: &[u8]) -> usize
-    ensures { result ≡ length (word_run bytes.now) }
+    ensures run { result ≡ length (word_run bytes.now) }
+    ensures within { result ≤ length bytes.now }
 {
     bytes.iter().take_while(|b| in_word(**b)).count()
 }

@@ -25,6 +25,7 @@ pub fn same_name(text: &[u8], a: Name, b: Name) -> bool
 }
 
 // The bytes of a name.
+#[tactic(auto, using(crate::proofs::Runs::run_front))]
 pub fn name_bytes(text: &[u8], name: Name) -> &[u8]
     ensures { result.now ≡ spelling text.now name }
 {

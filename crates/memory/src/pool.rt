@@ -54,9 +54,8 @@ impl<'a> Pool for Pools<'a> {
     ghost holds = { λ s used free. Pooled s.words.now s.heads.now s.top used free };
 
     fn take(&mut self, k: Size) -> Option<Address> {
-        let head = self.heads[k.0];
-        if head != 0 {
-            let a = (head - 1) as usize;
+        if let Some(a) = self.heads[k.0].checked_sub(1) {
+            let a = a as usize;
             self.heads[k.0] = self.words[a];
             return Some(Address(a));
         }
