@@ -45,6 +45,7 @@ pub fn word_length(bytes: &[u8]) -> usize
 }
 
 // The place behind the run of word bytes from start on.
+#[tactic(auto, using(crate::proofs::Runs::rest_length, crate::proofs::Runs::run_to))]
 pub fn word_end(text: &[u8], start: usize) -> usize
     requires { start ≤ length text.now }
     ensures within { (start ≤ result) × (result ≤ length text.now) }

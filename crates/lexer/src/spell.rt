@@ -14,6 +14,7 @@ fn from_name(text: &[u8], name: Name) -> &[u8]
 }
 
 // Whether two names are spelled the same. It looks at no more bytes than the shorter one has, and one more.
+#[tactic(auto, using(crate::proofs::Same::same_refl))]
 pub fn same_name(text: &[u8], a: Name, b: Name) -> bool
     ensures { result ≡ same (spelling text.now a) (spelling text.now b) }
 {

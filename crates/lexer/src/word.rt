@@ -7,6 +7,7 @@ ghost use Rattle.lexer.specs.Tokens.{spelled, drawn, signs};
 use crate::token::{Keyword, Sign};
 
 // What the digits stand for, if that is below 2^64.
+#[tactic(auto, using(crate::proofs::Numbers::digit_more, crate::proofs::Numbers::value_big))]
 pub fn number(lexeme: &[u8]) -> Option<u64>
     ensures { MatchOption result (value_of lexeme.now ≡ none) (λ n. value_of lexeme.now ≡ some n) }
 {
@@ -80,6 +81,7 @@ fn sign_of(b: u8) -> Option<Sign>
 }
 
 // The sign that a lexeme is.
+#[tactic(auto, using(crate::proofs::Signs::no_sign, crate::proofs::Signs::same_long))]
 pub fn sign(lexeme: &[u8]) -> Option<Sign>
     ensures { MatchOption result (is_in lexeme.now signs ≡ false) (λ s. lexeme.now ≡ drawn s) }
 {

@@ -9,12 +9,6 @@ use Rattle.lexer.proofs.Runs.{run_taken}
 use Rattle.lexer.proofs.Same.{same_refl}
 use Rattle.lexer.proofs.spell.same_name.Goals as goal
 
-pub returns-then-eq : goal.returns-then-eq
-returns-then-eq c =
-    let text = c.args.text.now in
-    let w = spelling text c.args.a in
-    sym (same_refl w) ∙ ap (λ i. same w (lexeme_at text i)) (eqb-true c.args.a.0 c.args.b.0 (sym c.if-eq.ensures))
-
 pub returns : goal.returns
 returns c =
     let one = c.from_name.result.now in
