@@ -6,7 +6,7 @@ use Rattle.language.specs.Base.{Lexeme, choose}
 use Rattle.language.specs.Text.{idle, collecting, is_word_byte, tokenize}
 use Rattle.lexer.specs.Places.{from_place, part, skipped}
 use Rattle.lexer.specs.Spelling.{word_run, lexeme_at}
-use Rattle.lexer.proofs.Cut.{after, choose_true, choose_false, starts_seen, starts_word, part_more}
+use Rattle.lexer.proofs.Cut.{after, choose_true, choose_false, starts_seen, starts_word}
 
 abbrev Goal : Lexeme → List ℕ → Lexeme → Type 0
 Goal piece bytes run = tokenize (collecting piece) bytes ≡ (piece ++ run) ∷ tokenize idle (drop (length run) bytes)
@@ -67,9 +67,6 @@ module _ (text : List ℕ) (i : ℕ) where
 
   pub run_on : i < length text → is_word_byte (get_or text i 0) ≡ true → lexeme_at text i ≡ get_or text i 0 ∷ lexeme_at text (i + 1)
   run_on inside e = ap word_run (drop_more text i 0 inside) ∙ choose_true _ _ e
-
-  pub run_off : i < length text → is_word_byte (get_or text i 0) ≡ false → lexeme_at text i ≡ []
-  run_off inside e = ap word_run (drop_more text i 0 inside) ∙ choose_false _ _ e
 
   pub run_end : length text ≤ i → lexeme_at text i ≡ []
   run_end outside = ap word_run (drop_all i text outside)

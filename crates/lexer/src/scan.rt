@@ -55,6 +55,7 @@ pub fn word_end(text: &[u8], start: usize) -> usize
 }
 
 // The place behind the lexeme that starts at start.
+#[tactic(auto, using(crate::proofs::Runs::word_to, crate::proofs::Cut::whole_twice, crate::proofs::Cut::whole_equals, crate::proofs::Cut::whole_sign, crate::proofs::Cut::equals_alone, crate::proofs::Cut::equals_at_end))]
 pub fn lexeme_end(text: &[u8], start: usize) -> usize
     requires inside { start < length text.now }
     requires begins { skipped (slice_index text.now start) ≡ false }

@@ -1,12 +1,11 @@
-use Rattle.std.proofs.Common.{take_while, ◌≡◌, sym, ap, ap₂, refl, eqb-true, ◌∙◌, rules, tests}
+use Rattle.std.proofs.Common.{take_while, ◌≡◌, ap, ap₂, refl, ◌∙◌, rules, tests}
 use Rattle.std.proofs.lemmas.Iterator.{YieldsList-from_slice}
 use Rattle.std.proofs.lemmas.Iterator.Search.{YieldsList-from_take_while}
 use Rattle.language.specs.Base.{same}
 use Rattle.language.specs.Text.{is_word_byte}
-use Rattle.lexer.specs.Spelling.{word_run, lexeme_at, spelling}
+use Rattle.lexer.specs.Spelling.{word_run}
 use Rattle.lexer.proofs.Chains.{same_from_eq}
 use Rattle.lexer.proofs.Runs.{run_taken}
-use Rattle.lexer.proofs.Same.{same_refl}
 use Rattle.lexer.proofs.spell.same_name.Goals as goal
 
 pub returns : goal.returns
