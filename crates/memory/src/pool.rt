@@ -53,6 +53,7 @@ impl<'a> Pool for Pools<'a> {
 
     ghost holds = { λ s used free. Pooled s.words.now s.heads.now s.top used free };
 
+    #[tactic(auto, using(crate::proofs::Places::first_in, crate::proofs::Places::refused))]
     fn take(&mut self, k: Size) -> Option<Address> {
         if let Some(a) = self.heads[k.0].checked_sub(1) {
             let a = a as usize;
@@ -74,6 +75,7 @@ impl<'a> Pool for Pools<'a> {
 }
 
 // Pools give places exactly as the meaning counts boxes: by the peaks of each size.
+#[tactic(auto, using(crate::proofs::Peaks::pools_follow_peaks))]
 pub fn pools_follow_peaks() -> u8
     ensures { PoolsFollowPeaks }
 {

@@ -3,20 +3,6 @@ use Rattle.memory.specs.Row.{heap_words, stack_words, row, Moved}
 use Rattle.memory.proofs.Steps.{moved_more}
 use Rattle.memory.proofs.row.move_words.Goals as goal
 
-pub read-v-requires : goal.read-v-requires
-read-v-requires g c =
-    let e = c.loop-i.invariant.0 in
-    let lt : c.loop-i.i < c.args.n.0 = omega arith in
-    let h = g.S.Span.fewer c.args.s.now _ _ _ c.loop-i.i c.requires.has lt in
-    subst (λ (x : ℕ). g.S.Span.has c.args.s.now x (stack_words c.loop-i.m) (c.loop-i.i + 1)) (sym e.heap) (subst (λ (x : ℕ). g.S.Span.has c.args.s.now (heap_words c.args.m.now) x (c.loop-i.i + 1)) (sym e.stack) h)
-
-pub write-requires : goal.write-requires
-write-requires g c =
-    let e = c.loop-i.invariant.0 in
-    let lt : c.loop-i.i < c.args.n.0 = omega arith in
-    let h = g.T.Span.fewer c.args.t.now _ _ _ c.loop-i.i c.requires.holds lt in
-    subst (λ (x : ℕ). g.T.Span.has c.args.t.now x (stack_words c.loop-i.m) (c.loop-i.i + 1)) (sym e.heap) (subst (λ (x : ℕ). g.T.Span.has c.args.t.now (heap_words c.args.m.now) x (c.loop-i.i + 1)) (sym e.stack) h)
-
 pub loop-i-preserved : goal.loop-i-preserved
 loop-i-preserved g c =
     let e = c.loop-i.invariant.0 in
