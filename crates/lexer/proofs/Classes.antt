@@ -19,9 +19,6 @@ part_leads text i j inside before = ap (λ bytes. leading (take (j - i) bytes)) 
 pub no_keyword : (w : Lexeme) → small (leading w) ≡ false → is_in w reserved ≡ false
 no_keyword w e = none_in small w reserved e refl
 
-pub large_word : (b : ℕ) → large b ≡ true → is_word_byte b ≡ true
-large_word b e = rw e (grind arith)
-
 pub small_word : (b : ℕ) → small b ≡ true → is_word_byte b ≡ true
 small_word b e = grind (arith, e)
 

@@ -56,18 +56,6 @@ module _ (text : List ℕ) (i : ℕ) (inside : i < length text) where
   pub one_byte : (s : Lexing) → tokenize s (drop i text) ≡ after (reads_byte s (get_or text i 0)) (drop (i + 1) text)
   one_byte s = ap (tokenize s) (drop_more text i 0 inside)
 
-  pub over_blank : is_blank (get_or text i 0) ≡ true → tokenize idle (drop i text) ≡ tokenize idle (drop (i + 1) text)
-  over_blank e = one_byte idle ∙ ap (λ m. after m (drop (i + 1) text)) (choose_true _ _ e)
-
-  pub over_hash : get_or text i 0 ≡ 35 → tokenize idle (drop i text) ≡ tokenize skipping (drop (i + 1) text)
-  over_hash e = one_byte idle ∙ ap (λ b. after (reads_byte idle b) (drop (i + 1) text)) e
-
-  pub over_line : get_or text i 0 ≡ 10 → tokenize skipping (drop i text) ≡ tokenize idle (drop (i + 1) text)
-  over_line e = one_byte skipping ∙ ap (λ b. after (reads_byte skipping b) (drop (i + 1) text)) e
-
-  pub over_comment : (get_or text i 0 ≡ 10 → ⊥) → tokenize skipping (drop i text) ≡ tokenize skipping (drop (i + 1) text)
-  over_comment e = one_byte skipping ∙ ap (λ m. after m (drop (i + 1) text)) (choose_false _ _ (ne_eqb _ 10 e))
-
   equals_begins : get_or text i 0 ≡ 61 → tokenize idle (drop i text) ≡ tokenize after_equals (drop (i + 1) text)
   equals_begins e = one_byte idle ∙ ap (λ b. after (reads_byte idle b) (drop (i + 1) text)) e
 
@@ -99,10 +87,6 @@ part_more text i j before inside =
 
 pub part_one : (text : List ℕ) (i : ℕ) → i < length text → part text i (i + 1) ≡ get_or text i 0 ∷ []
 part_one text i inside = part_more text i i (omega arith) inside ∙ ap (λ ws. ws ++ (get_or text i 0 ∷ [])) (part_none text i)
-
--- a turn of the loop over blanks and comments
-pub turned : (text : List ℕ) (i j : ℕ) {seen : List Lexeme} {t u t' u' : Bool} → seen ≡ tokenize (state t) (drop i text) → t ≡ u → tokenize (state u) (drop i text) ≡ tokenize (state u') (drop j text) → t' ≡ u' → seen ≡ tokenize (state t') (drop j text)
-turned text i j inv p e q = inv ∙ ap (λ s. tokenize (state s) (drop i text)) p ∙ e ∙ ap (λ s. tokenize (state s) (drop j text)) (sym q)
 
 -- a lexeme that is no word, with the part that it is
 module _ (text : List ℕ) (i : ℕ) (inside : i < length text) where

@@ -9,3 +9,5 @@ pub mod Tell
 pub mod SameToken
 pub mod Asks
 pub mod Few
+pub mod Chains
+pub mod Words

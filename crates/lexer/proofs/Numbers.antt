@@ -1,8 +1,8 @@
 -- Decimal numbers, digit by digit.
 use Rattle.std.proofs.Common.{◌≡◌, ℕ, ◌+◌, ◌-◌, ◌*◌, ◌<◌, ◌≤◌, Bool, true, false, ◌&&◌, ltb, leb, [], ◌∷◌, length, get_or, drop, sym, refl, ap, ◌∙◌, arith}
 use mathlib.Core.Option.{Option, some, none}
-use Rattle.std.proofs.lemmas.List.{drop_more, drop_all}
-use Rattle.std.proofs.lemmas.Bool.{le-leb, lt-leb, lt-ltb, le-ltb, and_from, and_left, and_right}
+use Rattle.std.proofs.lemmas.List.{drop_more}
+use Rattle.std.proofs.lemmas.Bool.{le-leb, le-ltb, and_from}
 use Rattle.language.specs.Base.{Lexeme, choose, if_some}
 use Rattle.language.specs.Text.{decimal, value_of}
 use Rattle.lexer.proofs.Cut.{choose_true, choose_false}
@@ -13,21 +13,6 @@ fits n = choose (ltb n 18446744073709551616) (some n) none
 module _ (part : Lexeme) (i n : ℕ) where
   pub digit_more : i < length part → 48 ≤ get_or part i 0 → get_or part i 0 ≤ 57 → decimal n (drop i part) ≡ decimal (n * 10 + (get_or part i 0 - 48)) (drop (i + 1) part)
   digit_more inside low high = ap (decimal n) (drop_more part i 0 inside) ∙ choose_true _ _ (and_from _ _ (le-leb 48 _ low) (le-leb _ 57 high))
-
-  pub digit_low : i < length part → get_or part i 0 < 48 → decimal n (drop i part) ≡ none
-  digit_low inside low = ap (decimal n) (drop_more part i 0 inside) ∙ choose_false _ _ (and_left (leb 48 (get_or part i 0)) (leb (get_or part i 0) 57) (lt-leb 48 _ low))
-
-  pub digit_high : i < length part → 57 < get_or part i 0 → decimal n (drop i part) ≡ none
-  digit_high inside high = ap (decimal n) (drop_more part i 0 inside) ∙ choose_false _ _ (and_right (leb 48 (get_or part i 0)) (leb (get_or part i 0) 57) (lt-leb _ 57 high))
-
-  pub digits_end : length part ≤ i → decimal n (drop i part) ≡ some n
-  digits_end outside = ap (decimal n) (drop_all i part outside)
-
-pub value_none : (part : Lexeme) → decimal 0 part ≡ none → value_of part ≡ none
-value_none part e = ap (λ o. if_some o fits) e
-
-pub value_some : (part : Lexeme) (n : ℕ) → n < 18446744073709551616 → decimal 0 part ≡ some n → value_of part ≡ some n
-value_some part n h e = ap (λ o. if_some o fits) e ∙ choose_true _ _ (lt-ltb n 18446744073709551616 h)
 
 chosen_some : {A : Type 0} (t : Bool) (o : Option A) (x : A) → choose t o none ≡ some x → o ≡ some x
 chosen_some true o x e = e

@@ -1,7 +1,10 @@
 -- Equal lexemes, as a test.
-use Rattle.std.proofs.Common.{◌≡◌, ℕ, Bool, true, false, ◌&&◌, eqb, List, [], ◌∷◌, sym, refl, ap, ◌∙◌, ap₂, true≢false, arith, eqb-true}
+use Rattle.std.proofs.Common.{◌≡◌, ℕ, Bool, true, false, ◌&&◌, eqb, List, [], ◌∷◌, sym, refl, ap, ◌∙◌, ap₂, true≢false, arith, rules, eqb-true}
 use mathlib.Core.Bool.{false≢true}
 use Rattle.std.proofs.lemmas.Bool.{and_parts, or_from}
+use Rattle.std.proofs.lemmas.Bool.Decides.{same_from_decides, Decides-eqb}
+use Rattle.std.proofs.lemmas.Slice.Eq.{slice_eq-Decides, compares_Decides}
+use Rattle.std.specs.Cmp.Lexicographic.{pointwise}
 use Rattle.language.specs.Base.{Lexeme, same, is_in, each_of}
 use Rattle.language.specs.Text.{leading}
 
@@ -22,6 +25,10 @@ same_is (x ∷ a) (y ∷ b) e =
 pub same_refl : (a : Lexeme) → same a a ≡ true
 same_refl [] = refl
 same_refl (x ∷ a) = grind (arith, same_refl a)
+
+-- what `==` of two slices says
+pub same_by_eq : (a b : Lexeme) (r : Bool) → r ≡ pointwise eqb a b → r ≡ same a b
+same_by_eq a b r e = same_from_decides _ _ (slice_eq-Decides Decides-eqb a b r e) (compares_Decides same (search rules) a b)
 
 -- lexemes that differ in a test on their first bytes
 pub apart : (f : ℕ → Bool) (a b : Lexeme) {t : Bool} → f (leading a) ≡ t → (f (leading b) ≡ t → ⊥) → same a b ≡ false

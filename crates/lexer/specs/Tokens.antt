@@ -52,13 +52,6 @@ drawn Minus = sg_minus
 drawn Slash = sg_over
 drawn Percent = sg_rest
 
--- the reserved words in two halves
-abbrev pub item_words : List Lexeme
-item_words = kw_data ∷ kw_drop ∷ kw_by ∷ kw_fn ∷ kw_let ∷ kw_put ∷ kw_if ∷ kw_else ∷ kw_while ∷ kw_take ∷ []
-
-abbrev pub other_words : List Lexeme
-other_words = kw_view ∷ kw_edit ∷ kw_open ∷ kw_inside ∷ kw_give ∷ kw_box ∷ kw_ref ∷ kw_mut ∷ kw_int ∷ kw_get ∷ []
-
 abbrev pub signs : List Lexeme
 signs = sg_lp ∷ sg_rp ∷ sg_lc ∷ sg_rc ∷ sg_comma ∷ sg_semi ∷ sg_colon ∷ sg_bar ∷ sg_gets ∷ sg_and ∷ sg_star ∷ sg_is ∷ sg_less ∷ sg_plus ∷ sg_minus ∷ sg_over ∷ sg_rest ∷ []
 

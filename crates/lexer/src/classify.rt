@@ -27,6 +27,7 @@ fn is_small(b: u8) -> bool
 }
 
 // The token that the lexeme from start up to end is.
+#[tactic(auto, using(crate::proofs::Classes::lower_by, crate::proofs::Classes::stray_by, crate::proofs::Classes::small_word))]
 pub fn classify(text: &[u8], start: usize, end: usize) -> Token
     requires within { (start < end) × (end ≤ length text.now) }
     requires run { is_word_byte (slice_index text.now start) ≡ true → lexeme_at text.now start ≡ part text.now start end }
@@ -35,21 +36,12 @@ pub fn classify(text: &[u8], start: usize, end: usize) -> Token
     let lexeme = &text[start..end];
     let b = text[start];
     if is_digit(b) {
-        match number(lexeme) {
-            Some(n) => Token::Number(n),
-            None => Token::BadNumber,
-        }
+        number(lexeme).map_or(Token::BadNumber, Token::Number)
     } else if is_large(b) {
         Token::Upper(Name(start))
     } else if is_small(b) {
-        match keyword(lexeme) {
-            Some(k) => Token::Reserved(k),
-            None => Token::Lower(Name(start)),
-        }
+        keyword(lexeme).map_or(Token::Lower(Name(start)), Token::Reserved)
     } else {
-        match sign(lexeme) {
-            Some(s) => Token::Mark(s),
-            None => Token::Other,
-        }
+        sign(lexeme).map_or(Token::Other, Token::Mark)
     }
 }

@@ -1,9 +1,15 @@
+ghost use Rattle.std.specs.Prelude.{◌≡◌};
+ghost use Rattle.lexer.specs.Tokens.{spelled};
+
 use crate::token::{Keyword, Sign};
 use std::fmt;
 
-impl fmt::Display for Keyword {
-    fn fmt<W: fmt::Write>(&self, f: &mut fmt::Formatter<W>) -> fmt::Result {
-        f.write_str(match self {
+impl Keyword {
+    // How a program spells it.
+    pub(crate) fn word(self) -> &'static str
+        ensures { result.now ≡ spelled self }
+    {
+        match self {
             Keyword::Data => "data",
             Keyword::Drop => "drop",
             Keyword::By => "by",
@@ -24,7 +30,13 @@ impl fmt::Display for Keyword {
             Keyword::Mut => "mut",
             Keyword::Int => "int",
             Keyword::Get => "get",
-        })
+        }
+    }
+}
+
+impl fmt::Display for Keyword {
+    fn fmt<W: fmt::Write>(&self, f: &mut fmt::Formatter<W>) -> fmt::Result {
+        f.write_str(self.word())
     }
 }
 

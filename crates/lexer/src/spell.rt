@@ -1,54 +1,37 @@
-ghost use Rattle.std.specs.Prelude.{◌≡◌, ◌+◌, ◌<◌, [], ◌∷◌, length, MatchOption};
+ghost use Rattle.std.specs.Prelude.{◌≡◌, drop};
 ghost use Rattle.language.specs.Base.{same};
-ghost use Rattle.lexer.specs.Spelling.{lexeme_at, spelling};
+ghost use Rattle.lexer.specs.Spelling.{spelling};
 
 use crate::name::Name;
-use crate::scan::{in_word, word_end};
+use crate::scan::{in_word, word_length};
 use std::fmt;
 
-// The byte at a place, if it is one of a word.
-fn word_byte(text: &[u8], i: usize) -> Option<u8>
-    ensures { MatchOption result (lexeme_at text.now i ≡ []) (λ b. (i < length text.now) × (lexeme_at text.now i ≡ b ∷ lexeme_at text.now (i + 1))) }
+// What is left of the text from a name on: nothing if it lies behind the end.
+fn from_name(text: &[u8], name: Name) -> &[u8]
+    ensures { result.now ≡ drop name.0 text.now }
 {
-    if i < text.len() && in_word(text[i]) {
-        Some(text[i])
-    } else {
-        None
-    }
+    text.get(name.0..).unwrap_or(&[])
 }
 
 // Whether two names are spelled the same. It looks at no more bytes than the shorter one has, and one more.
+#[tactic(auto, using(crate::proofs::Same::same_refl))]
 pub fn same_name(text: &[u8], a: Name, b: Name) -> bool
     ensures { result ≡ same (spelling text.now a) (spelling text.now b) }
 {
-    if a.0 == b.0 {
+    if a == b {
         return true;
     }
-    let mut i = a.0;
-    let mut j = b.0;
-    while let Some(x) = word_byte(text, i) {
-        let Some(y) = word_byte(text, j) else {
-            return false;
-        };
-        if x != y {
-            return false;
-        }
-        i += 1;
-        j += 1;
-    }
-    word_byte(text, j).is_none()
+    let bytes = from_name(text, a).iter().take_while(|x| in_word(**x));
+    bytes.eq(from_name(text, b).iter().take_while(|y| in_word(**y)))
 }
 
 // The bytes of a name.
+#[tactic(auto, using(crate::proofs::Runs::run_front))]
 pub fn name_bytes(text: &[u8], name: Name) -> &[u8]
     ensures { result.now ≡ spelling text.now name }
 {
-    let start = name.0;
-    if start >= text.len() {
-        return &[];
-    }
-    let end = word_end(text, start);
-    &text[start..end]
+    let bytes = from_name(text, name);
+    &bytes[..word_length(bytes)]
 }
 
 // A name with the text that it is a place of, to be written out.

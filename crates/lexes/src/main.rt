@@ -33,15 +33,11 @@ fn report_many(rt: &HostRuntime, label: &str, pattern: &[u8]) -> anyhow::Result<
 
 // Each byte alone, and all bytes in a row.
 fn report_bytes(rt: &HostRuntime) -> anyhow::Result<()> {
-    let mut all = Vec::new(rt.alloc());
-    for b in 0..=255u8 {
-        all.push(b)?;
-    }
+    let all: Vec<u8> = (0..=u8::MAX).collect(rt.alloc())?;
     report(rt, "all bytes", all.as_slice())?;
     let mut apart = Vec::new(rt.alloc());
-    for b in 0..=255u8 {
-        apart.push(b)?;
-        apart.push(b'\n')?;
+    for b in 0..=u8::MAX {
+        apart.extend_from_slice(&[b, b'\n'])?;
     }
     report(rt, "each byte on a line", apart.as_slice())
 }

@@ -6,7 +6,7 @@ use lexer::{Lexer, Token};
 use std::fmt;
 
 // How many tokens of each kind there are.
-#[derive(Clone, Copy)]
+#[derive(Clone, Copy, Default)]
 pub struct Tally {
     pub reserved: usize,
     pub signs: usize,
@@ -17,19 +17,6 @@ pub struct Tally {
 }
 
 impl Tally {
-    fn none() -> Self
-        ensures { total result ≡ 0 }
-    {
-        Tally {
-            reserved: 0,
-            signs: 0,
-            lower: 0,
-            upper: 0,
-            numbers: 0,
-            other: 0,
-        }
-    }
-
     // One more.
     fn count(&mut self, token: Token)
         requires { total self.old + 1 < 2 ^ 64 }
@@ -67,7 +54,7 @@ impl fmt::Display for Tally {
 pub fn tally_of(text: &[u8]) -> Tally
     ensures { total result ≡ length (tokenize idle text.now) }
 {
-    let mut tally = Tally::none();
+    let mut tally = Tally::default();
     let mut lexer = Lexer::new(text);
     while let Some(token) = lexer.next() {
         tally.count(token);

@@ -15,18 +15,13 @@ impl Turns {
         ensures { elim result [ Some t ↦ t.0 + 1 ≡ self.0 | None ↦ self.0 ≡ 0 ] }
     {
         let Turns(count) = self;
-        if count == 0 {
-            None
-        } else {
-            Some(Turns(count - 1))
-        }
+        count.checked_sub(1).map(Turns)
     }
 
     pub fn left(self) -> u64
         ensures { result ≡ self.0 }
     {
-        match self {
-            Turns(rest) => rest,
-        }
+        let Turns(rest) = self;
+        rest
     }
 }

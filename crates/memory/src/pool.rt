@@ -53,10 +53,10 @@ impl<'a> Pool for Pools<'a> {
 
     ghost holds = { λ s used free. Pooled s.words.now s.heads.now s.top used free };
 
+    #[tactic(auto, using(crate::proofs::Places::first_in, crate::proofs::Places::refused))]
     fn take(&mut self, k: Size) -> Option<Address> {
-        let head = self.heads[k.0];
-        if head != 0 {
-            let a = (head - 1) as usize;
+        if let Some(a) = self.heads[k.0].checked_sub(1) {
+            let a = a as usize;
             self.heads[k.0] = self.words[a];
             return Some(Address(a));
         }
@@ -75,6 +75,7 @@ impl<'a> Pool for Pools<'a> {
 }
 
 // Pools give places exactly as the meaning counts boxes: by the peaks of each size.
+#[tactic(auto, using(crate::proofs::Peaks::pools_follow_peaks))]
 pub fn pools_follow_peaks() -> u8
     ensures { PoolsFollowPeaks }
 {

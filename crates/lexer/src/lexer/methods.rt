@@ -18,6 +18,7 @@ impl<'a> Lexer<'a> {
     }
 
     // Before the first token from a place on.
+    #[tactic(auto, using(crate::proofs::Cut::none_left, crate::proofs::Tell::told_some))]
     fn at(text: &'a [u8], place: usize) -> Self
         requires { place ≤ length text.now }
         ensures text { text_of result ≡ text.now }
@@ -43,6 +44,7 @@ impl<'a> Lexer<'a> {
     }
 
     // The token ahead.
+    #[tactic(auto, using(crate::proofs::Tell::ahead))]
     pub fn peek(&self) -> Option<Token>
         ensures { Next (text_of self.now) result (left self.now) }
     {
@@ -57,6 +59,7 @@ impl<'a> Lexer<'a> {
     }
 
     // The token ahead, which is then behind the lexer.
+    #[tactic(auto, using(crate::proofs::Tell::behind))]
     pub fn next(&mut self) -> Option<Token>
         ensures next { Next (text_of self.old) result (left self.old) }
         ensures left { left self.new ≡ skip_one (left self.old) }

@@ -1,11 +1,16 @@
-use Rattle.std.proofs.Common.{sym, ap, ◌∙◌}
+use Rattle.std.proofs.Common.{take_while, ◌≡◌, ap, ap₂, refl, ◌∙◌, rules, tests}
+use Rattle.std.proofs.lemmas.Iterator.{YieldsList-from_slice}
+use Rattle.std.proofs.lemmas.Iterator.Search.{YieldsList-from_take_while}
 use Rattle.language.specs.Base.{same}
-use Rattle.lexer.specs.Spelling.{lexeme_at}
-use Rattle.lexer.proofs.Same.{same_refl}
+use Rattle.language.specs.Text.{is_word_byte}
+use Rattle.lexer.specs.Spelling.{word_run}
+use Rattle.lexer.proofs.Chains.{same_from_eq}
+use Rattle.lexer.proofs.Runs.{run_taken}
 use Rattle.lexer.proofs.spell.same_name.Goals as goal
 
-pub returns-then-a-b : goal.returns-then-a-b
-returns-then-a-b c =
-    let text = c.args.text.now in
-    let w = lexeme_at text c.args.a.0 in
-    sym (same_refl w) ∙ ap (λ i. same w (lexeme_at text i)) c.if-a-b.true
+pub returns : goal.returns
+returns c =
+    let one = c.from_name.result.now in
+    let two = c.from_name-2.result.now in
+    same_from_eq {ys = take_while is_word_byte two} (λ x y. y ≡ x) _ _ c.eq-2.ensures.ran (YieldsList-from_take_while _ is_word_byte (YieldsList-from_slice one cc) c.take_while-bytes.ensures.closure c.take_while-bytes.ensures.done (λ x b q k. search (rules, tests))) (λ it e. rw e (YieldsList-from_take_while _ is_word_byte (YieldsList-from_slice two cc) c.take_while.ensures.closure c.take_while.ensures.done (λ x b q k. search (rules, tests)))) (λ x y. refl)
+    ∙ ap₂ same (run_taken one ∙ ap word_run c.from_name.ensures) (run_taken two ∙ ap word_run c.from_name-2.ensures)

@@ -1,4 +1,4 @@
-use Rattle.std.proofs.Common.{length-set, get_or-set_other, rules}
+use Rattle.std.proofs.Common.{rules}
 use Rattle.memory.proofs.Places.{used_inside, gave}
 use Rattle.memory.proofs.pool.PoolsPool.give_back.Goals as goal
 
@@ -11,5 +11,5 @@ bounds-self-a c = used_inside _ _ _ _ _ _ _ c.requires.used.1.1.1
 pub overflow_add-self : goal.overflow_add-self
 overflow_add-self c = let h = used_inside _ _ _ _ _ _ _ c.requires.used.1.1.1 in search rules
 
-pub returns : goal.returns
-returns c = record { gives = λ one two free P. gave _ _ _ _ _ one two free c.requires.size P; other = λ i ne. get_or-set_other _ _ i _ 0 ne; same = (simp length-set, simp length-set) }
+pub returns-clause-gives : goal.returns-clause-gives
+returns-clause-gives c = λ one two free P. gave _ _ _ _ _ one two free c.requires.size P

@@ -1,38 +1,24 @@
-use Rattle.std.proofs.Common.{ℕ, ◌+◌, ◌-◌, ◌<◌, ◌≤◌, length, get_or, sym, refl, ap, ◌∙◌, subst, arith, length-set, rules}
+use Rattle.std.proofs.Common.{◌≡◌, ℕ, ◌+◌, ◌≤◌, length, sym, ap, ◌∙◌, subst, arith}
 use Rattle.memory.specs.Place.{first_or, of_size}
-use Rattle.memory.proofs.Places.{first_in, got_free, got_new, refused}
+use Rattle.memory.proofs.Places.{got_free, got_new}
 use Rattle.memory.proofs.pool.PoolsPool.take.Goals as goal
 
-in_range : (c : goal.Then-head-ne0) → get_or c.args.self.now.heads.now c.args.k.0 0 - 1 < length c.args.self.now.words.now
-in_range c = first_in _ _ _ _ _ _ c.requires.some.1.1 c.requires.size.1 c.if-head-ne0.true
+some_one : (h : ℕ) → 1 ≤ h → h ≡ 0 → ⊥
+some_one h one e = omega arith
 
-pub offset_bounds-self-a : goal.offset_bounds-self-a
-offset_bounds-self-a c = let h = in_range c in search rules
+no_one : (h : ℕ) → (1 ≤ h → ⊥) → h ≡ 0
+no_one h none = omega arith
 
-pub bounds-self-a : goal.bounds-self-a
-bounds-self-a c = in_range c
+pub returns-in-Some-clause-takes : goal.returns-in-Some-clause-takes
+returns-in-Some-clause-takes c = λ used free P. rw c.in-Some.ensures.1 (
+    let g = got_free _ _ _ _ used free P c.requires.size.1 (some_one _ c.in-Some.ensures.0) in
+    let t = P.filled in
+    (g.which ∙ ap (λ n. first_or n (of_size c.args.k.0 free)) (sym t), (λ e. subst (λ (n : ℕ). n + c.args.k.0 ≤ length c.args.self.now.words.now) (sym t) (g.fits e)), g.pooled))
 
-pub returns-then-head-ne0 : goal.returns-then-head-ne0
-returns-then-head-ne0 c = record {
-  takes = λ used free P. (let g = got_free _ _ _ _ used free P c.requires.size.1 c.if-head-ne0.true in
-      let t = P.filled in
-      (g.which ∙ ap (λ n. first_or n (of_size c.args.k.0 free)) (sym t), (λ e. subst (λ (n : ℕ). n + c.args.k.0 ≤ length c.args.self.now.words.now) (sym t) (g.fits e)), g.pooled));
-  same = (refl, simp length-set);
-}
-
-pub returns-then-k-self : goal.returns-then-k-self
-returns-then-k-self c =
-    let r = c.requires.some.1.1.room in
-    let n : length c.args.self.now.words.now < c.args.self.now.top + c.args.k.0 = omega arith in
-    record { takes = λ used free P. (let g = refused _ _ _ _ used free P c.requires.size.1 c.if-head-ne0.false n in (g.none_free, subst (λ (m : ℕ). length c.args.self.now.words.now < m + c.args.k.0) (sym P.filled) n, P)); same = (refl, refl) }
-
-pub returns : goal.returns
-returns c =
-    let r = c.requires.some.1.1.room in
+pub returns-clause-takes : goal.returns-clause-takes
+returns-clause-takes c = λ used free P. (
+    let r = P.room in
     let n : c.args.self.now.top + c.args.k.0 ≤ length c.args.self.now.words.now = omega arith in
-    record {
-      takes = λ used free P. (let g = got_new _ _ _ _ used free P c.requires.size.0 c.requires.size.1 c.if-head-ne0.false n in
-          let t = P.filled in
-          (g.which ∙ ap (λ m. first_or m (of_size c.args.k.0 free)) (sym t), (λ e. subst (λ (m : ℕ). m + c.args.k.0 ≤ length c.args.self.now.words.now) (sym t) n), g.pooled));
-      same = (refl, refl);
-    }
+    let g = got_new _ _ _ _ used free P c.requires.size.0 c.requires.size.1 (no_one _ c.in_default.ensures) n in
+    let t = P.filled in
+    (g.which ∙ ap (λ m. first_or m (of_size c.args.k.0 free)) (sym t), (λ e. subst (λ (m : ℕ). m + c.args.k.0 ≤ length c.args.self.now.words.now) (sym t) n), g.pooled))
