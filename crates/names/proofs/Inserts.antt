@@ -1,5 +1,6 @@
 -- A name put into a free bucket.
 use Rattle.std.proofs.Common.{◌≡◌, ℕ, ◌+◌, ◌<◌, ◌⊎◌, List, length, get_or, set, sym, ap, ◌∙◌, subst, inl, inr, arith, length-set, get_or-set_other, get_or-set_same}
+use mathlib.Core.Logic.{∥∥₁_map}
 use Rattle.std.proofs.lemmas.Bool.{cases_eq}
 use Rattle.language.specs.Base.{Lexeme}
 use Rattle.lexer.specs.Spelling.{lexeme_at}
@@ -61,8 +62,11 @@ module _ (text table : List ℕ) (i q : ℕ) (within : i < length table) (free :
   new_apart room sound a b j k (inr holds) (inl f) is = absurd (room.absent sound a (j, holds) (is ∙ ap (lexeme_at text) f.1))
   new_apart room sound a b j k (inr g) (inr h) is = sound.apart a b (j, g) (k, h) is
 
-  pub sound_new : Room text table (lexeme_at text q) i → Sound text table → Sound text after
+  sound_new : Room text table (lexeme_at text q) i → Sound text table → Sound text after
   sound_new room sound = record {
     reached = λ j p holds. new_reached room sound j p (was j p holds);
     apart = λ a b ha hb is. new_apart room sound a b ha.0 hb.0 (was ha.0 a ha.1) (was hb.0 b hb.1) is;
   }
+
+  pub still_sound : Room text table (lexeme_at text q) i → ∥ Sound text table ∥₁ → ∥ Sound text after ∥₁
+  still_sound room sound = ∥∥₁_map sound (sound_new room)
