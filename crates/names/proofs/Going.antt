@@ -22,14 +22,6 @@ pub record Going (text words after table : List ℕ) (k : ℕ) : Type 0 where
   pub behind : (j : ℕ) → 3 * k ≤ j → get_or after j 0 ≡ get_or words j 0
   pub named : (l : ℕ) (i : Instr) (x : ℕ) → l < k → instr_at after l ≡ Some i → Uses i x → Has table x
 
-pub begun : (text words table : List ℕ) → used table ≡ 0 → Going text words words table 0
-begun text words table none = record {
-  few = omega (arith, none);
-  alike = λ l. refl;
-  behind = λ j h. refl;
-  named = λ l i x h. absurd (omega arith);
-}
-
 -- another slot than the one that is written
 other_slot : (words : List ℕ) (k l : ℕ) (s : Slot) → (l ≡ k → ⊥) → instr_at (with_slot words k s) l ≡ instr_at words l
 other_slot words k l s ne = ap held (slot_kept words k s l ne)

@@ -5,7 +5,7 @@ use Rattle.std.proofs.lemmas.Bool.{cases_eq}
 use Rattle.language.specs.Base.{Lexeme}
 use Rattle.lexer.specs.Spelling.{lexeme_at}
 use Rattle.names.specs.Hash.{home, walk}
-use Rattle.names.specs.Table.{Holds, Has, Reached, Sound, Room}
+use Rattle.names.specs.Table.{Holds, Reached, Sound, Room}
 
 module _ (text table : List ℕ) (i q : ℕ) (within : i < length table) (free : get_or table i 0 ≡ 0) where
   abbrev after : List ℕ
@@ -40,15 +40,6 @@ module _ (text table : List ℕ) (i q : ℕ) (within : i < length table) (free :
           let new' : p ≡ q = omega (arith, new) in
           inl (is, new')
       on (inr ne) = inr (sym (there j ne) ∙ holds)
-
-  pub has_new : Has after q
-  has_new = (i, here)
-
-  pub has_still : (p : ℕ) → Has table p → Has after p
-  has_still p has = (has.0, there has.0 ne ∙ has.1)
-    where
-      ne : has.0 ≡ i → ⊥
-      ne is = let none : p + 1 ≡ 0 = sym has.1 ∙ ap (λ k. get_or table k 0) is ∙ free in absurd (omega (arith, none))
 
   new_reached : Room text table (lexeme_at text q) i → Sound text table → (j p : ℕ) → ((j ≡ i) × (p ≡ q)) ⊎ Holds table j p → Reached (length after) after (home (length after) (lexeme_at text p)) j
   new_reached room sound j p (inl e) =

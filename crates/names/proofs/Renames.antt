@@ -94,8 +94,8 @@ pub record Operands (text next : List ℕ) (old : Slot) (p q : Bool) (a b : ℕ)
   pub second : Operand text next q old.second b
 
 -- one operand after the other
-pub both : (text text' next later : List ℕ) (old : Slot) (p q : Bool) (a b : ℕ) → p ≡ first_named old.op → q ≡ second_named old.op → Operand text next p old.first a → text' ≡ text → ((x : ℕ) → Has next x → Has later x) → Operand text' later q old.second b → Operands text later old p q a b
-both text text' next later old p q a b e f first same grows second = record {
+pub both_operands : (text text' next later : List ℕ) (old : Slot) (p q : Bool) (a b : ℕ) → p ≡ first_named old.op → q ≡ second_named old.op → Operand text next p old.first a → text' ≡ text → ((x : ℕ) → Has next x → Has later x) → Operand text' later q old.second b → Operands text later old p q a b
+both_operands text text' next later old p q a b e f first same grows second = record {
   first_is = e;
   second_is = f;
   first = (first.0, first.1, λ t. grows a (first.2 t));

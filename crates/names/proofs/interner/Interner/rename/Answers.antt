@@ -2,7 +2,7 @@ use Rattle.std.proofs.Common.{◌∙◌, sym, ap, arith}
 use Rattle.std.specs.Result.{result_ok}
 use Rattle.std.proofs.lemmas.Result.{err_from_is_err_and}
 use Rattle.names.proofs.Used.{used_all}
-use Rattle.names.proofs.Renames.{both, still_instr, given}
+use Rattle.names.proofs.Renames.{both_operands, still_instr, given}
 use Rattle.names.proofs.interner.Interner.rename.Goals as goal
 
 pub returns-in_err-first-clause-gives : goal.returns-in_err-first-clause-gives
@@ -18,13 +18,13 @@ returns-in_err-second-clause-gives c =
 pub unwrap-requires : goal.unwrap-requires
 unwrap-requires c =
     still_instr c.args.self.now.text.now c.operand-2.new.self.table.now c.args.instr _ _ _ _ c.from-old.result c.from-old.ensures
-    (both _ c.operand.new.self.text.now c.operand.new.self.table.now _ _ _ _ c.in_ok-first.first c.in_ok-second.second c.is_first_named.ensures c.is_second_named.ensures c.in_ok-first.ensures.gives c.in_ok-first.ensures.text
+    (both_operands _ c.operand.new.self.text.now c.operand.new.self.table.now _ _ _ _ c.in_ok-first.first c.in_ok-second.second c.is_first_named.ensures c.is_second_named.ensures c.in_ok-first.ensures.gives c.in_ok-first.ensures.text
     c.in_ok-second.ensures.grows c.in_ok-second.ensures.gives)
     c.try_from.result c.try_from.ensures
 
 pub returns-clause-gives : goal.returns-clause-gives
 returns-clause-gives c =
     given c.args.self.now.text.now c.operand-2.new.self.table.now c.args.instr _ _ _ _ c.from-old.result c.from-old.ensures
-    (both _ c.operand.new.self.text.now c.operand.new.self.table.now _ _ _ _ c.in_ok-first.first c.in_ok-second.second c.is_first_named.ensures c.is_second_named.ensures c.in_ok-first.ensures.gives c.in_ok-first.ensures.text
+    (both_operands _ c.operand.new.self.text.now c.operand.new.self.table.now _ _ _ _ c.in_ok-first.first c.in_ok-second.second c.is_first_named.ensures c.is_second_named.ensures c.in_ok-first.ensures.gives c.in_ok-first.ensures.text
     c.in_ok-second.ensures.grows c.in_ok-second.ensures.gives)
     c.unwrap.result (ap result_ok (sym c.unwrap.ensures) ∙ c.try_from.ensures)
