@@ -43,6 +43,7 @@ impl<'a> Interner<'a> {
         requires { to ≤ length self.now.table.now }
         ensures { MatchOption result (PassedIn self.now.text.now self.now.table.now (spelling self.now.text.now name) from to) (StoppedIn self.now.text.now self.now.table.now name from to) }
     {
+        // By number, which a free bucket is told by.
         for i in from..to {
             let entry = self.table[i];
             if entry == 0 {
