@@ -8,7 +8,7 @@ use crate::hash::hash_of;
 use crate::spot::Spot;
 use lexer::{Name, same_name};
 
-// Names by number over a text: in a table in lent words each spelling has one place.
+// Names by number over a text: each spelling has one place in a table. The table lies in lent words, since nothing here allocates.
 #[derive(Drop)]
 pub struct Interner<'a> {
     text: &'a [u8],
