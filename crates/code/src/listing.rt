@@ -42,31 +42,19 @@ impl<'a> Listed<'a> {
         }
     }
 
-    fn one<W: fmt::Write>(&self, f: &mut fmt::Formatter<W>, word: &str, x: Name) -> fmt::Result {
-        let x = self.spelled(x);
-        write!(f, "{word} {x}")
-    }
-
-    fn two<W: fmt::Write>(
+    // A word, and names behind it.
+    fn named<W: fmt::Write>(
         &self,
         f: &mut fmt::Formatter<W>,
         word: &str,
-        x: Name,
-        y: Name,
+        names: &[Name],
     ) -> fmt::Result {
-        let x = self.spelled(x);
-        let y = self.spelled(y);
-        write!(f, "{word} {x} {y}")
-    }
-
-    fn looked<W: fmt::Write>(
-        &self,
-        f: &mut fmt::Formatter<W>,
-        access: Access,
-        x: Name,
-    ) -> fmt::Result {
-        let x = self.spelled(x);
-        write!(f, "match {access} {x}")
+        f.write_str(word)?;
+        for name in names {
+            let name = self.spelled(*name);
+            write!(f, " {name}")?;
+        }
+        Ok(())
     }
 }
 
@@ -74,21 +62,21 @@ impl fmt::Display for Listed<'_> {
     fn fmt<W: fmt::Write>(&self, f: &mut fmt::Formatter<W>) -> fmt::Result {
         match self.instr {
             Instr::Num(n) => write!(f, "num {n}"),
-            Instr::Var(x) => self.one(f, "var", x),
+            Instr::Var(x) => self.named(f, "var", &[x]),
             Instr::Int => f.write_str("int"),
             Instr::Op(o) => write!(f, "op {o}"),
-            Instr::Make(c) => self.one(f, "make", c),
-            Instr::Call(x) => self.one(f, "call", x),
+            Instr::Make(c) => self.named(f, "make", &[c]),
+            Instr::Call(x) => self.named(f, "call", &[x]),
             Instr::Arg => f.write_str("arg"),
             Instr::Apply => f.write_str("apply"),
             Instr::Box => f.write_str("box"),
-            Instr::Share(x) => self.one(f, "share", x),
-            Instr::Lend(x) => self.one(f, "lend", x),
-            Instr::Load(x) => self.one(f, "load", x),
+            Instr::Share(x) => self.named(f, "share", &[x]),
+            Instr::Lend(x) => self.named(f, "lend", &[x]),
+            Instr::Load(x) => self.named(f, "load", &[x]),
             Instr::Get => f.write_str("get"),
-            Instr::Bind(x) => self.one(f, "bind", x),
-            Instr::Assign(x) => self.one(f, "assign", x),
-            Instr::Store(x) => self.one(f, "store", x),
+            Instr::Bind(x) => self.named(f, "bind", &[x]),
+            Instr::Assign(x) => self.named(f, "assign", &[x]),
+            Instr::Store(x) => self.named(f, "store", &[x]),
             Instr::Put => f.write_str("put"),
             Instr::If => f.write_str("if"),
             Instr::Else => f.write_str("else"),
@@ -96,27 +84,30 @@ impl fmt::Display for Listed<'_> {
             Instr::While => f.write_str("while"),
             Instr::Do => f.write_str("do"),
             Instr::EndWhile => f.write_str("end while"),
-            Instr::Match(w, x) => self.looked(f, w, x),
-            Instr::Arm(c) => self.one(f, "arm", c),
-            Instr::Part(x) => self.one(f, "part", x),
+            Instr::Match(w, x) => {
+                let x = self.spelled(x);
+                write!(f, "match {w} {x}")
+            }
+            Instr::Arm(c) => self.named(f, "arm", &[c]),
+            Instr::Part(x) => self.named(f, "part", &[x]),
             Instr::Body => f.write_str("body"),
             Instr::EndArm => f.write_str("end arm"),
             Instr::EndMatch => f.write_str("end match"),
-            Instr::Open(x, y) => self.two(f, "open", x, y),
-            Instr::Inside(x, y) => self.two(f, "inside", x, y),
+            Instr::Open(x, y) => self.named(f, "open", &[x, y]),
+            Instr::Inside(x, y) => self.named(f, "inside", &[x, y]),
             Instr::Give => f.write_str("give"),
             Instr::EndFn => f.write_str("end fn"),
             Instr::TyInt => f.write_str("type int"),
-            Instr::TyData(d) => self.one(f, "type", d),
+            Instr::TyData(d) => self.named(f, "type", &[d]),
             Instr::TyBox => f.write_str("type box"),
             Instr::TyRef => f.write_str("type ref"),
             Instr::TyMut => f.write_str("type mut"),
             Instr::Field => f.write_str("field"),
-            Instr::Ctor(c) => self.one(f, "ctor", c),
-            Instr::Data(d, None) => self.one(f, "data", d),
-            Instr::Data(d, Some(last)) => self.two(f, "data", d, last),
-            Instr::Param(x) => self.one(f, "param", x),
-            Instr::Fn(g) => self.one(f, "fn", g),
+            Instr::Ctor(c) => self.named(f, "ctor", &[c]),
+            Instr::Data(d, None) => self.named(f, "data", &[d]),
+            Instr::Data(d, Some(last)) => self.named(f, "data", &[d, last]),
+            Instr::Param(x) => self.named(f, "param", &[x]),
+            Instr::Fn(g) => self.named(f, "fn", &[g]),
         }
     }
 }
@@ -130,9 +121,8 @@ pub struct Listing<'a> {
 
 impl fmt::Display for Listing<'_> {
     fn fmt<W: fmt::Write>(&self, f: &mut fmt::Formatter<W>) -> fmt::Result {
-        let slots = self.words.len() / 3;
-        for k in 0..slots {
-            match decode(self.words, k) {
+        for (k, slot) in self.words.chunks_exact(3).enumerate() {
+            match decode(slot, 0) {
                 Some(instr) => {
                     let listed = Listed {
                         text: self.text,

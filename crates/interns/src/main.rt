@@ -2,18 +2,15 @@
 // and their spellings.
 #![tactic(auto)]
 
-use code::{Instr, Listing};
+use code::{Instr, Listing, Slot};
 use lexer::{Lexer, Token};
 use names::canonical;
 use std::alloc::{AllocError, Global};
 use std::{env, fs};
 
 fn push_instr(words: &mut Vec<u64>, instr: Instr) -> Result<(), AllocError> {
-    let slot = instr.slot();
-    words.push(slot.op)?;
-    words.push(slot.first)?;
-    words.push(slot.second)?;
-    Ok(())
+    let slot = Slot::from(instr);
+    words.extend_from_slice(&[slot.op, slot.first, slot.second])
 }
 
 // Each name of the text in an instruction.
@@ -36,9 +33,8 @@ fn names_of(heap: Global, text: &[u8]) -> Result<Vec<u64>, AllocError> {
 
 // The places of the names.
 fn print_places(rt: &HostRuntime, words: &[u64]) -> anyhow::Result<()> {
-    let slots = words.len() / 3;
-    for k in 0..slots {
-        let place = words[3 * k + 1];
+    for slot in words.chunks_exact(3) {
+        let place = slot[1];
         print!(rt; "{place} ")?;
     }
     println!(rt)?;
@@ -47,13 +43,7 @@ fn print_places(rt: &HostRuntime, words: &[u64]) -> anyhow::Result<()> {
 
 // How many buckets are taken.
 fn taken(table: &[u64]) -> usize {
-    let mut n = 0usize;
-    for word in table {
-        if *word > 0 {
-            n = n.wrapping_add(1);
-        }
-    }
-    n
+    table.iter().filter(|&&word| word > 0).count()
 }
 
 fn show(rt: &HostRuntime, text: &[u8]) -> anyhow::Result<()> {
@@ -66,7 +56,7 @@ fn show(rt: &HostRuntime, text: &[u8]) -> anyhow::Result<()> {
     print_places(rt, words.as_slice())?;
     let n = words.len() / 3;
     let mut table = vec![in rt.alloc(); 0u64; words.len()]?;
-    let fits = canonical(text, words.as_mut_slice(), n, table.as_mut_slice());
+    let fits = canonical(text, words.as_mut_slice(), n, table.as_mut_slice()).is_ok();
     println!(rt; "fits: {fits}")?;
     print_places(rt, words.as_slice())?;
     let listing = Listing {
@@ -81,7 +71,7 @@ fn count(rt: &HostRuntime, text: &[u8]) -> anyhow::Result<()> {
     let mut words = names_of(rt.alloc(), text)?;
     let n = words.len() / 3;
     let mut table = vec![in rt.alloc(); 0u64; words.len()]?;
-    let fits = canonical(text, words.as_mut_slice(), n, table.as_mut_slice());
+    let fits = canonical(text, words.as_mut_slice(), n, table.as_mut_slice()).is_ok();
     let spellings = taken(table.as_slice());
     println!(rt; "{n} names, {spellings} spellings, fits: {fits}")?;
     Ok(())

@@ -1,49 +1,34 @@
 -- The pass over the slots: what stays as it was, and what is known of those behind.
-use Rattle.std.proofs.Common.{◌≡◌, ℕ, zero, suc, ◌+◌, ◌*◌, ◌<◌, ◌≤◌, ◌⊎◌, List, ◌++◌, map, length, get_or, is_some, Some, None, Option as Maybe, sym, refl, ap, ◌∙◌, subst, ap₂, inl, inr, true≢false, arith}
+use Rattle.std.proofs.Common.{◌≡◌, ℕ, zero, suc, ◌+◌, ◌*◌, ◌<◌, ◌≤◌, ◌⊎◌, List, ◌++◌, map, length, get_or, Some, None, Option as Maybe, sym, refl, ap, ◌∙◌, subst, ap₂, inl, inr, arith}
 use Rattle.std.specs.Option.{option_map, option_to_list}
 use Rattle.std.proofs.lemmas.List.{map-append, length-map}
+use mathlib.Core.Logic.{∥∥₁_elim}
+use native.Mathlib.Nat.{ℕ_set}
 use Rattle.std.proofs.lemmas.Bool.{cases_eq}
+use Rattle.std.proofs.lemmas.Option.{none-some, same_Some}
 use Rattle.code.specs.declared.instr.Instr.{Instr}
 use Rattle.code.specs.declared.slot.Slot.{Slot}
-use Rattle.code.specs.Slots.{slot_of}
+use Rattle.code.specs.Slots.{slot_of, held}
 use Rattle.code.specs.Words.{instr_at, with_slot, instrs_in, Filled, code_in}
 use Rattle.code.specs.Means.{means}
-use Rattle.code.proofs.InWords.{word_kept, word_behind, same_slot, instr_put}
+use Rattle.code.proofs.InWords.{word_behind, slot_kept, instr_put}
 use Rattle.names.specs.Table.{Has, Sound, used}
 use Rattle.names.specs.Canonical.{Uses, Canonical}
 
 -- words: as they were at first; after: as they are, when k slots are done
 pub record Going (text words after table : List ℕ) (k : ℕ) : Type 0 where
-  pub sound : Sound text table
   pub few : used table ≤ 2 * k
   pub alike : (l : ℕ) → option_map (means text) (instr_at after l) ≡ option_map (means text) (instr_at words l)
   pub behind : (j : ℕ) → 3 * k ≤ j → get_or after j 0 ≡ get_or words j 0
   pub named : (l : ℕ) (i : Instr) (x : ℕ) → l < k → instr_at after l ≡ Some i → Uses i x → Has table x
 
-pub begun : (text words table : List ℕ) → Sound text table → used table ≡ 0 → Going text words words table 0
-begun text words table sound none = record {
-  sound = sound;
-  few = omega (arith, none);
-  alike = λ l. refl;
-  behind = λ j h. refl;
-  named = λ l i x h. absurd (omega arith);
-}
-
 -- another slot than the one that is written
 other_slot : (words : List ℕ) (k l : ℕ) (s : Slot) → (l ≡ k → ⊥) → instr_at (with_slot words k s) l ≡ instr_at words l
-other_slot words k l s ne = same_slot words (with_slot words k s) l (λ j low high. word_kept words k s j (λ e. ne (omega arith)) (λ e. ne (omega arith)) (λ e. ne (omega arith)))
-
-some_is : {A : Type 0} {x y : A} → Some x ≡ Some y → x ≡ y
-some_is {A} {x} e = ap (λ o. from o) e
-  where
-    from : Maybe A → A
-    from None = x
-    from (Some v) = v
+other_slot words k l s ne = ap held (slot_kept words k s l ne)
 
 -- a slot that holds no instruction
 pub passed_over : (text words after table : List ℕ) (k : ℕ) → Going text words after table k → instr_at after k ≡ None → Going text words after table (k + 1)
 passed_over text words after table k g none = record {
-  sound = g.sound;
   few = omega (arith, g.few);
   alike = g.alike;
   behind = λ j h. g.behind j (omega arith);
@@ -51,10 +36,10 @@ passed_over text words after table k g none = record {
 }
   where
     on : (l : ℕ) (i : Instr) (x : ℕ) → (l ≡ k) ⊎ (l ≡ k → ⊥) → l < k + 1 → instr_at after l ≡ Some i → Uses i x → Has table x
-    on l i x (inl e) h is uses = absurd (true≢false (ap is_some (sym is ∙ ap (instr_at after) e ∙ none)))
+    on l i x (inl e) h is uses = absurd (none-some i (sym none ∙ ap (instr_at after) (sym e) ∙ is))
     on l i x (inr ne) h is uses = g.named l i x (omega (arith, ne)) is uses
 
-module _ (text words after table next : List ℕ) (k : ℕ) (i j : Instr) (g : Going text words after table k) (inside : 3 * k + 2 < length after) (was : instr_at after k ≡ Some i) (same : means text j ≡ means text i) (uses : (x : ℕ) → Uses j x → Has next x) (sound : Sound text next) (few : used next ≤ used table + 2) (grows : (p : ℕ) → Has table p → Has next p) where
+module _ (text words after table next : List ℕ) (k : ℕ) (i j : Instr) (g : Going text words after table k) (inside : 3 * k + 2 < length after) (was : instr_at after k ≡ Some i) (same : means text j ≡ means text i) (uses : (x : ℕ) → Uses j x → Has next x) (few : used next ≤ used table + 2) (grows : (p : ℕ) → Has table p → Has next p) where
   abbrev written : List ℕ
   written = with_slot after k (slot_of j)
 
@@ -72,12 +57,11 @@ module _ (text words after table next : List ℕ) (k : ℕ) (i j : Instr) (g : G
   alike_on l (inr ne) = ap (option_map (means text)) (other_slot after k l (slot_of j) ne) ∙ g.alike l
 
   named_on : (l : ℕ) (m : Instr) (x : ℕ) → (l ≡ k) ⊎ (l ≡ k → ⊥) → l < k + 1 → instr_at written l ≡ Some m → Uses m x → Has next x
-  named_on l m x (inl e) h is u = uses x (subst (λ n. Uses n x) (some_is (sym is ∙ ap (instr_at written) e ∙ put)) u)
+  named_on l m x (inl e) h is u = uses x (subst (λ n. Uses n x) (same_Some m j (sym is ∙ ap (instr_at written) e ∙ put)) u)
   named_on l m x (inr ne) h is u = grows x (g.named l m x (omega (arith, ne)) (sym (other_slot after k l (slot_of j) ne) ∙ is) u)
 
   pub renamed_one : Going text words written next (k + 1)
   renamed_one = record {
-    sound = sound;
     few = omega (arith, few, g.few);
     alike = λ l. alike_on l (cases_eq l k);
     behind = λ p h. word_behind after k (slot_of j) p (omega arith) ∙ g.behind p (omega arith);
@@ -92,16 +76,20 @@ listed : (text : List ℕ) (o : Maybe Instr) → map (means text) (option_to_lis
 listed text None = refl
 listed text (Some i) = refl
 
-pub code_same : (text words after : List ℕ) → ((l : ℕ) → option_map (means text) (instr_at after l) ≡ option_map (means text) (instr_at words l)) → (n : ℕ) → code_in text after n ≡ code_in text words n
+code_same : (text words after : List ℕ) → ((l : ℕ) → option_map (means text) (instr_at after l) ≡ option_map (means text) (instr_at words l)) → (n : ℕ) → code_in text after n ≡ code_in text words n
 code_same text words after alike zero = refl
 code_same text words after alike (suc n) =
     map-append (means text) (instrs_in after n) (option_to_list (instr_at after n))
     ∙ ap₂ ◌++◌ (code_same text words after alike n) (listed text (instr_at after n) ∙ ap option_to_list (alike n) ∙ sym (listed text (instr_at words n)))
     ∙ sym (map-append (means text) (instrs_in words n) (option_to_list (instr_at words n)))
 
-pub filled_same : (text words after : List ℕ) (n : ℕ) → code_in text after n ≡ code_in text words n → Filled words n → Filled after n
-filled_same text words after n e full =
-    sym (length-map (instrs_in after n) (means text)) ∙ ap length e ∙ length-map (instrs_in words n) (means text) ∙ full
+pub code_now : {text words after table : List ℕ} {k : ℕ} → Going text words after table k → (n : ℕ) → code_in text after n ≡ code_in text words n
+code_now {text} {words} {after} g n = code_same text words after g.alike n
 
-pub canonical_now : (text words after table : List ℕ) (n : ℕ) → Going text words after table n → Canonical text after n
-canonical_now text words after table n g k l i j x y hk hl ik jl ux uy same = g.sound.apart x y (g.named k i x hk ik ux) (g.named l j y hl jl uy) same
+pub filled_now : {text words after table : List ℕ} {k : ℕ} → Going text words after table k → (n : ℕ) → Filled words n → Filled after n
+filled_now {text} {words} {after} g n full =
+    sym (length-map (instrs_in after n) (means text)) ∙ ap length (code_now g n) ∙ length-map (instrs_in words n) (means text) ∙ full
+
+pub canonical_now : (text words after table : List ℕ) (n : ℕ) → ∥ Sound text table ∥₁ → Going text words after table n → Canonical text after n
+canonical_now text words after table n sound g k l i j x y hk hl ik jl ux uy same =
+    ∥∥₁_elim sound (ℕ_set x y) (λ s. s.apart x y (g.named k i x hk ik ux) (g.named l j y hl jl uy) same)

@@ -1,10 +1,11 @@
 -- A name put into a free bucket.
 use Rattle.std.proofs.Common.{◌≡◌, ℕ, ◌+◌, ◌<◌, ◌⊎◌, List, length, get_or, set, sym, ap, ◌∙◌, subst, inl, inr, arith, length-set, get_or-set_other, get_or-set_same}
+use mathlib.Core.Logic.{∥∥₁_map}
 use Rattle.std.proofs.lemmas.Bool.{cases_eq}
 use Rattle.language.specs.Base.{Lexeme}
 use Rattle.lexer.specs.Spelling.{lexeme_at}
 use Rattle.names.specs.Hash.{home, walk}
-use Rattle.names.specs.Table.{Holds, Has, Reached, Sound, Room}
+use Rattle.names.specs.Table.{Holds, Reached, Sound, Room}
 
 module _ (text table : List ℕ) (i q : ℕ) (within : i < length table) (free : get_or table i 0 ≡ 0) where
   abbrev after : List ℕ
@@ -40,15 +41,6 @@ module _ (text table : List ℕ) (i q : ℕ) (within : i < length table) (free :
           inl (is, new')
       on (inr ne) = inr (sym (there j ne) ∙ holds)
 
-  pub has_new : Has after q
-  has_new = (i, here)
-
-  pub has_still : (p : ℕ) → Has table p → Has after p
-  has_still p has = (has.0, there has.0 ne ∙ has.1)
-    where
-      ne : has.0 ≡ i → ⊥
-      ne is = let none : p + 1 ≡ 0 = sym has.1 ∙ ap (λ k. get_or table k 0) is ∙ free in absurd (omega (arith, none))
-
   new_reached : Room text table (lexeme_at text q) i → Sound text table → (j p : ℕ) → ((j ≡ i) × (p ≡ q)) ⊎ Holds table j p → Reached (length after) after (home (length after) (lexeme_at text p)) j
   new_reached room sound j p (inl e) =
       subst (λ k. Reached (length after) after (home (length after) (lexeme_at text p)) k) (sym e.0)
@@ -61,8 +53,11 @@ module _ (text table : List ℕ) (i q : ℕ) (within : i < length table) (free :
   new_apart room sound a b j k (inr holds) (inl f) is = absurd (room.absent sound a (j, holds) (is ∙ ap (lexeme_at text) f.1))
   new_apart room sound a b j k (inr g) (inr h) is = sound.apart a b (j, g) (k, h) is
 
-  pub sound_new : Room text table (lexeme_at text q) i → Sound text table → Sound text after
+  sound_new : Room text table (lexeme_at text q) i → Sound text table → Sound text after
   sound_new room sound = record {
     reached = λ j p holds. new_reached room sound j p (was j p holds);
     apart = λ a b ha hb is. new_apart room sound a b ha.0 hb.0 (was ha.0 a ha.1) (was hb.0 b hb.1) is;
   }
+
+  pub still_sound : Room text table (lexeme_at text q) i → ∥ Sound text table ∥₁ → ∥ Sound text after ∥₁
+  still_sound room sound = ∥∥₁_map sound (sound_new room)

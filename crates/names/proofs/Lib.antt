@@ -1,3 +1,4 @@
+pub mod Hashes
 pub mod Walks
 pub mod Search
 pub mod Inserts

@@ -1,5 +1,7 @@
 -- Other places for the names of an instruction, in its slot.
-use Rattle.std.proofs.Common.{◌≡◌, ℕ, Bool, true, false, List, [], Some, None, Option as Maybe, sym, refl, ap, ◌∙◌, subst, ap₂, inl, inr, MatchOption}
+use Rattle.std.proofs.Common.{◌≡◌, ℕ, Bool, true, false, List, [], Some, None, Ok, Err, Result, IsOk, sym, refl, ap, ◌∙◌, subst, ap₂, inl, inr}
+use Rattle.std.specs.Result.{result_ok}
+use Rattle.std.proofs.lemmas.Option.{none-some, same_Some}
 use Rattle.lexer.specs.Spelling.{lexeme_at}
 use Rattle.code.specs.declared.instr.Operator.TheVariants.{Add, Sub, Mul, Div, Rem, Equal, Less}
 use Rattle.code.specs.declared.instr.Access.TheVariants.{Take, View, Edit}
@@ -80,26 +82,48 @@ renaming (Open x y) a b k = record { to = Open (name a) (name b); is = refl; slo
 renaming (Inside x y) a b k = record { to = Inside (name a) (name b); is = refl; slots = refl; same_means = λ text e f. ap₂ spec.i_inside e f }
 renaming (Data d (Some last)) a b k = record { to = Data (name a) (Some (name b)); is = refl; slots = refl; same_means = λ text e f. ap₂ spec.i_data e f }
 
+-- an operand's new word
+abbrev pub Operand : List ℕ → List ℕ → Bool → ℕ → ℕ → Type 0
+Operand text next named old new = (lexeme_at text new ≡ lexeme_at text old) × (named ≡ false → new ≡ old) × (named ≡ true → Has next new)
+
 -- what a slot with new operands gives
 pub record Operands (text next : List ℕ) (old : Slot) (p q : Bool) (a b : ℕ) : Type 0 where
   pub first_is : p ≡ first_named old.op
   pub second_is : q ≡ second_named old.op
-  pub first : (lexeme_at text a ≡ lexeme_at text old.first) × (p ≡ false → a ≡ old.first) × (p ≡ true → Has next a)
-  pub second : (lexeme_at text b ≡ lexeme_at text old.second) × (q ≡ false → b ≡ old.second) × (q ≡ true → Has next b)
+  pub first : Operand text next p old.first a
+  pub second : Operand text next q old.second b
 
-module _ (text next : List ℕ) (i : Instr) (p q : Bool) (a b : ℕ) (P : Type 0) where
-  abbrev Given : Maybe Instr → Type 0
-  Given o = MatchOption o P (λ j. (means text j ≡ means text i) × ((x : ℕ) → Uses j x → Has next x))
+-- one operand after the other
+pub both_operands : (text text' next later : List ℕ) (old : Slot) (p q : Bool) (a b : ℕ) → p ≡ first_named old.op → q ≡ second_named old.op → Operand text next p old.first a → text' ≡ text → ((x : ℕ) → Has next x → Has later x) → Operand text' later q old.second b → Operands text later old p q a b
+both_operands text text' next later old p q a b e f first same grows second = record {
+  first_is = e;
+  second_is = f;
+  first = (first.0, first.1, λ t. grows a (first.2 t));
+  second = subst (λ t. Operand t later q old.second b) same second;
+}
 
+module _ (text next : List ℕ) (i : Instr) (p q : Bool) (a b : ℕ) where
   has : (x : ℕ) → Operands text next (slot_of i) p q a b → Names (slot (slot_of i).op a b) x → Has next x
   has x h (inl u) = subst (Has next) u.1 (h.first.2 (h.first_is ∙ u.0))
   has x h (inr u) = subst (Has next) u.1 (h.second.2 (h.second_is ∙ u.0))
 
-  given_at : Operands text next (slot_of i) p q a b → Given (held (slot (slot_of i).op a b))
-  given_at h =
-      let r = renaming i a b (λ n. h.first.1 (h.first_is ∙ n), λ n. h.second.1 (h.second_is ∙ n)) in
-      subst Given (sym r.is) (r.same_means text h.first.0 h.second.0, λ x u. has x h (subst (λ s. Names s x) r.slots u))
+  renamed : Operands text next (slot_of i) p q a b → Renamed i a b
+  renamed h = renaming i a b (λ n. h.first.1 (h.first_is ∙ n), λ n. h.second.1 (h.second_is ∙ n))
 
-  pub given : (old : Slot) → old ≡ slot_of i → Operands text next old p q a b → (o : Maybe Instr) → o ≡ held (slot old.op a b) → Given o
-  given old e h o is =
-      subst Given (sym (is ∙ ap (λ s. held (slot s.op a b)) e)) (given_at (subst (λ s. Operands text next s p q a b) e h))
+  module _ (old : Slot) (e : old ≡ slot_of i) (h : Operands text next old p q a b) where
+    new : Renamed i a b
+    new = renamed (subst (λ s. Operands text next s p q a b) e h)
+
+    held_new : held (slot old.op a b) ≡ Some new.to
+    held_new = ap (λ s. held (slot s.op a b)) e ∙ new.is
+
+    -- the new words are an instruction's
+    pub still_instr : {E : Type 0} (r : Result Instr E) → result_ok r ≡ held (slot old.op a b) → IsOk r
+    still_instr (Ok j) is = refl
+    still_instr (Err x) is = absurd (none-some new.to (is ∙ held_new))
+
+    pub given : (j : Instr) → Some j ≡ held (slot old.op a b) → (means text j ≡ means text i) × ((x : ℕ) → Uses j x → Has next x)
+    given j is =
+        let o = subst (λ s. Operands text next s p q a b) e h in
+        subst (λ j. (means text j ≡ means text i) × ((x : ℕ) → Uses j x → Has next x)) (sym (same_Some j new.to (is ∙ held_new)))
+        (new.same_means text o.first.0 o.second.0, λ x u. has x o (subst (λ s. Names s x) new.slots u))

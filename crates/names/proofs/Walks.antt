@@ -1,6 +1,6 @@
--- Going over the buckets of a table: every one is come to.
-use Rattle.std.proofs.Common.{◌≡◌, ℕ, zero, suc, ◌+◌, ◌-◌, ◌<◌, ◌≤◌, ◌⊎◌, ap, ◌∙◌, inl, inr, arith}
-use Rattle.std.proofs.lemmas.Bool.{cases_lt, lt-ltb, le-ltb}
+-- Going over the buckets of a table, round its end.
+use Rattle.std.proofs.Common.{◌≡◌, ℕ, zero, suc, ◌+◌, ◌-◌, ◌<◌, ◌≤◌, ap, ◌∙◌, arith}
+use Rattle.std.proofs.lemmas.Bool.{lt-ltb, le-ltb}
 use Rattle.lexer.proofs.Cut.{choose_true, choose_false}
 use Rattle.names.specs.Hash.{next_bucket, walk}
 
@@ -10,7 +10,7 @@ next_up m i h = choose_true _ _ (lt-ltb (i + 1) m h)
 pub next_round : (m i : ℕ) → m ≤ i + 1 → next_bucket m i ≡ 0
 next_round m i h = choose_false _ _ (le-ltb (i + 1) m h)
 
-walk_up : (m s d : ℕ) → s + d < m → walk m s d ≡ s + d
+pub walk_up : (m s d : ℕ) → s + d < m → walk m s d ≡ s + d
 walk_up m s zero h = omega arith
 walk_up m s (suc d) h =
     let on : s + d + 1 ≡ s + suc d = omega arith in
@@ -27,22 +27,8 @@ walk_round m s h =
     let top : s + (m - s - 1) ≡ m - 1 = omega arith in
     ap (walk m s) z ∙ ap (next_bucket m) (walk_up m s (m - s - 1) (omega arith) ∙ top) ∙ next_round m (m - 1) (omega arith)
 
-pub record Comes (m s i : ℕ) : Type 0 where
-  pub steps : ℕ
-  pub few : steps < m
-  pub at : walk m s steps ≡ i
-
-pub comes : (m s i : ℕ) → s < m → i < m → Comes m s i
-comes m s i hs hi = on (cases_lt i s)
-  where
-    on : (i < s) ⊎ (s ≤ i) → Comes m s i
-    on (inl low) =
-        let zero_up : 0 + i ≡ i = omega arith in
-        record {
-          steps = i + (m - s);
-          few = omega arith;
-          at = walk_add m s (m - s) i ∙ ap (λ k. walk m k i) (walk_round m s hs) ∙ walk_up m 0 i (omega arith) ∙ zero_up;
-        }
-    on (inr high) =
-        let back : s + (i - s) ≡ i = omega arith in
-        record { steps = i - s; few = omega arith; at = walk_up m s (i - s) (omega arith) ∙ back }
+-- the buckets behind the end, counted from the first
+pub walk_on : (m s i : ℕ) → s < m → i < m → walk m s (i + (m - s)) ≡ i
+walk_on m s i hs hi =
+    let zero_up : 0 + i ≡ i = omega arith in
+    walk_add m s (m - s) i ∙ ap (λ k. walk m k i) (walk_round m s hs) ∙ walk_up m 0 i (omega arith) ∙ zero_up

@@ -22,8 +22,8 @@ pub record Sound (text table : List ℕ) : Type 0 where
   pub reached : (i p : ℕ) → Holds table i p → Reached (length table) table (home (length table) (lexeme_at text p)) i
   pub apart : (p q : ℕ) → Has table p → Has table q → lexeme_at text p ≡ lexeme_at text q → p ≡ q
 
-abbrev pub Full : List ℕ → Type 0
-Full table = (i : ℕ) → i < length table → slice_index table i ≢ 0
+abbrev pub IsFull : List ℕ → Type 0
+IsFull table = (i : ℕ) → i < length table → slice_index table i ≢ 0
 
 -- how many buckets are taken
 abbrev pub used : List ℕ → ℕ

@@ -1,10 +1,11 @@
-ghost use Rattle.std.specs.Prelude.{◌≡◌, ℕ, ◌+◌, ◌≤◌, true, false, length, MatchOption};
+ghost use Rattle.std.specs.Prelude.{◌≡◌, ℕ, ◌+◌, ◌≤◌, true, false, length, MatchResult};
 ghost use Rattle.lexer.specs.Spelling.{lexeme_at};
 ghost use Rattle.code.specs.Means.{means};
-ghost use Rattle.names.specs.Table.{Sound, Has, Full, used};
+ghost use Rattle.names.specs.Table.{Has, IsFull, used};
 ghost use Rattle.names.specs.Canonical.{first_named, second_named, Uses};
 
-use crate::buckets::intern;
+use crate::full::Full;
+use crate::interner::Interner;
 use code::{Instr, Slot};
 use lexer::Name;
 
@@ -20,40 +21,39 @@ fn is_second_named(op: u64) -> bool
     matches!(op, 40..=43)
 }
 
-// An operand's new word: the place in the table for a name, and the same word for another operand. None: the table is full.
-fn operand(text: &[u8], table: &mut [u64], named: bool, word: u64) -> Option<u64>
-    requires { Sound text.now table.old }
-    ensures sound { Sound text.now table.new }
-    ensures grows { (p : ℕ) → Has table.old p → Has table.new p }
-    ensures counts { used table.new ≤ used table.old + 1 }
-    ensures gives { MatchOption result (Full table.old) (λ v. (lexeme_at text.now v ≡ lexeme_at text.now word) × (named ≡ false → v ≡ word) × (named ≡ true → Has table.new v)) }
-{
-    if !named {
-        return Some(word);
+impl Interner<'_> {
+    // An operand's new word: the place in the table for a name, and the same word for another operand.
+    fn operand(&mut self, named: bool, word: u64) -> Result<u64, Full>
+        ensures text { self.new.text.now ≡ self.old.text.now }
+        ensures same_reference { self.new.table.ghost_name ≡ self.old.table.ghost_name }
+        ensures length { length self.new.table.now ≡ length self.old.table.now }
+        ensures grows { (p : ℕ) → Has self.old.table.now p → Has self.new.table.now p }
+        ensures counts { used self.new.table.now ≤ used self.old.table.now + 1 }
+        ensures gives { MatchResult result (λ v. (lexeme_at self.old.text.now v ≡ lexeme_at self.old.text.now word) × (named ≡ false → v ≡ word) × (named ≡ true → Has self.new.table.now v)) (λ _. IsFull self.old.table.now) }
+    {
+        if !named {
+            return Ok(word);
+        }
+        Ok(self.intern(Name(word as usize))?.0 as u64)
     }
-    let name = intern(text, table, Name(word as usize))?;
-    Some(name.0 as u64)
-}
 
-// The instruction with the names of the table in place of its own. None: the table is full.
-pub fn rename(text: &[u8], table: &mut [u64], instr: Instr) -> Option<Instr>
-    requires { Sound text.now table.old }
-    ensures sound { Sound text.now table.new }
-    ensures grows { (p : ℕ) → Has table.old p → Has table.new p }
-    ensures counts { used table.new ≤ used table.old + 2 }
-    ensures gives { MatchOption result (length table.old ≤ used table.old + 1) (λ j. (means text.now j ≡ means text.now instr) × ((x : ℕ) → Uses j x → Has table.new x)) }
-{
-    let old = instr.slot();
-    let Some(first) = operand(text, table, is_first_named(old.op), old.first) else {
-        return None;
-    };
-    let Some(second) = operand(text, table, is_second_named(old.op), old.second) else {
-        return None;
-    };
-    let slot = Slot {
-        op: old.op,
-        first,
-        second,
-    };
-    slot.instr()
+    // The instruction with the names of the table in place of its own.
+    pub fn rename(&mut self, instr: Instr) -> Result<Instr, Full>
+        ensures text { self.new.text.now ≡ self.old.text.now }
+        ensures same_reference { self.new.table.ghost_name ≡ self.old.table.ghost_name }
+        ensures length { length self.new.table.now ≡ length self.old.table.now }
+        ensures grows { (p : ℕ) → Has self.old.table.now p → Has self.new.table.now p }
+        ensures counts { used self.new.table.now ≤ used self.old.table.now + 2 }
+        ensures gives { MatchResult result (λ j. (means self.old.text.now j ≡ means self.old.text.now instr) × ((x : ℕ) → Uses j x → Has self.new.table.now x)) (λ _. length self.old.table.now ≤ used self.old.table.now + 1) }
+    {
+        let old = Slot::from(instr);
+        let first = self.operand(is_first_named(old.op), old.first)?;
+        let second = self.operand(is_second_named(old.op), old.second)?;
+        let slot = Slot {
+            op: old.op,
+            first,
+            second,
+        };
+        Ok(Instr::try_from(slot).unwrap())
+    }
 }
