@@ -6,5 +6,4 @@ pub mod fault;
 pub mod parse;
 mod parse_body;
 mod parse_expr;
-pub mod token;
 pub mod tree;
