@@ -2,7 +2,7 @@
 use crate::cursor::Cursor;
 use crate::fault::Fault;
 use crate::parse_expr::expression;
-use crate::tree::{Access, Alt, Arm, Body, BodyId, Name, Span, Stmt, Tail, append};
+use crate::tree::{Access, Alt, Arm, Body, BodyId, ExprId, Name, Span, Stmt, Tail, append};
 use lexer::{Keyword, Sign, Token};
 
 // Goes past the word for an access, if one is next.
@@ -63,22 +63,42 @@ fn assignment(cursor: &mut Cursor, name: Name) -> Result<Stmt, Fault> {
     Ok(Stmt::Assign(name, value))
 }
 
-// The next way of a match: its constructor, and the names of its parts; none at the brace behind the last one.
-fn pattern(cursor: &mut Cursor) -> Result<Option<(Name, Span)>, Fault> {
-    if cursor.accept(Token::Mark(Sign::RightBrace)) {
-        return Ok(None);
+// A test, and what is read behind it and again behind else.
+fn branches<T: Drop, F: FnMut(&mut Cursor) -> Result<T, Fault>>(
+    cursor: &mut Cursor,
+    mut read: F,
+) -> Result<(ExprId, T, T), Fault>
+    requires { F.IsAlwaysCallable read }
+{
+    let test = expression(cursor)?;
+    let yes = read(cursor)?;
+    cursor.expect(Token::Reserved(Keyword::Else))?;
+    let no = read(cursor)?;
+    Ok((test, yes, no))
+}
+
+// The ways of a match, up to }: of each its constructor, the names of its parts, and what is read behind them.
+fn ways<T: Drop, F: FnMut(&mut Cursor, Name, Span) -> Result<T, Fault>>(
+    cursor: &mut Cursor,
+    mut read: F,
+) -> Result<Vec<T>, Fault>
+    requires { F.IsAlwaysCallable read }
+{
+    let mut found = Vec::new(cursor.heap);
+    for _ in 0..u64::MAX {
+        if cursor.accept(Token::Mark(Sign::RightBrace)) {
+            break;
+        }
+        let ctor = cursor.upper()?;
+        let names = names(cursor)?;
+        found.push(read(cursor, ctor, names)?)?;
     }
-    let ctor = cursor.upper()?;
-    let names = names(cursor)?;
-    Ok(Some((ctor, names)))
+    Ok(found)
 }
 
 #[cycle(nested_statements)]
 fn conditional(cursor: &mut Cursor, depth: usize) -> Result<Stmt, Fault> {
-    let test = expression(cursor)?;
-    let yes = block(cursor, depth)?;
-    cursor.expect(Token::Reserved(Keyword::Else))?;
-    let no = block(cursor, depth)?;
+    let (test, yes, no) = branches(cursor, |cursor| block(cursor, depth))?;
     Ok(Stmt::If(test, yes, no))
 }
 
@@ -92,14 +112,10 @@ fn looping(cursor: &mut Cursor, depth: usize) -> Result<Stmt, Fault> {
 #[cycle(nested_statements)]
 fn matching(cursor: &mut Cursor, depth: usize, way: Access) -> Result<Stmt, Fault> {
     let name = cursor.up_to(Sign::LeftBrace, Cursor::lower)?;
-    let mut ways = Vec::new(cursor.heap);
-    for _ in 0..u64::MAX {
-        let Some((ctor, names)) = pattern(cursor)? else {
-            break;
-        };
+    let ways = ways(cursor, |cursor, ctor, names| {
         let block = block(cursor, depth)?;
-        ways.push(Alt { ctor, names, block })?;
-    }
+        Ok(Alt { ctor, names, block })
+    })?;
     let alts = append(&mut cursor.nodes.alts, ways.as_slice())?;
     Ok(Stmt::Match(way, name, alts))
 }
@@ -158,24 +174,17 @@ fn block(cursor: &mut Cursor, depth: usize) -> Result<Span, Fault> {
 
 #[cycle(nested_bodies)]
 fn giving_if(cursor: &mut Cursor, depth: usize) -> Result<Tail, Fault> {
-    let test = expression(cursor)?;
-    let yes = body(cursor, depth)?;
-    cursor.expect(Token::Reserved(Keyword::Else))?;
-    let no = body(cursor, depth)?;
+    let (test, yes, no) = branches(cursor, |cursor| body(cursor, depth))?;
     Ok(Tail::GiveIf(test, yes, no))
 }
 
 #[cycle(nested_bodies)]
 fn giving_match(cursor: &mut Cursor, depth: usize, way: Access) -> Result<Tail, Fault> {
     let name = cursor.up_to(Sign::LeftBrace, Cursor::lower)?;
-    let mut ways = Vec::new(cursor.heap);
-    for _ in 0..u64::MAX {
-        let Some((ctor, names)) = pattern(cursor)? else {
-            break;
-        };
+    let ways = ways(cursor, |cursor, ctor, names| {
         let body = body(cursor, depth)?;
-        ways.push(Arm { ctor, names, body })?;
-    }
+        Ok(Arm { ctor, names, body })
+    })?;
     let arms = append(&mut cursor.nodes.arms, ways.as_slice())?;
     cursor.count(1);
     Ok(Tail::GiveMatch(way, name, arms))
