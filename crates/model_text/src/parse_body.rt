@@ -1,4 +1,5 @@
-// Statements and bodies, by recursive descent. `depth` is how many levels of braces a reading may still go down.
+// Statements and bodies, by recursive descent. `depth` is how many levels of braces a reading may still go down. It is an argument and
+// no field of the cursor, so that it is what it was when a block has been read, and the recursion is seen to end by it.
 use crate::cursor::Cursor;
 use crate::fault::Fault;
 use crate::parse_expr::expression;
@@ -163,11 +164,9 @@ fn statements(cursor: &mut Cursor, depth: usize) -> Result<Span, Fault> {
 
 #[cycle(nested_statements)]
 fn block(cursor: &mut Cursor, depth: usize) -> Result<Span, Fault> {
-    if depth == 0 {
-        return Err(Fault::TooDeep);
-    }
+    let below = depth.checked_sub(1).ok_or(Fault::TooDeep)?;
     cursor.expect(Token::Mark(Sign::LeftBrace))?;
-    let does = statements(cursor, depth - 1)?;
+    let does = statements(cursor, below)?;
     cursor.expect(Token::Mark(Sign::RightBrace))?;
     Ok(does)
 }
@@ -204,13 +203,11 @@ fn tail(cursor: &mut Cursor, depth: usize) -> Result<Tail, Fault> {
 
 #[cycle(nested_bodies)]
 pub fn body(cursor: &mut Cursor, depth: usize) -> Result<BodyId, Fault> {
-    if depth == 0 {
-        return Err(Fault::TooDeep);
-    }
+    let below = depth.checked_sub(1).ok_or(Fault::TooDeep)?;
     cursor.expect(Token::Mark(Sign::LeftBrace))?;
-    let block = statements(cursor, depth - 1)?;
+    let block = statements(cursor, below)?;
     cursor.expect(Token::Reserved(Keyword::Give))?;
-    let tail = tail(cursor, depth - 1)?;
+    let tail = tail(cursor, below)?;
     cursor.expect(Token::Mark(Sign::RightBrace))?;
     let id = BodyId(cursor.nodes.bodies.len());
     cursor.nodes.bodies.push(Body { block, tail })?;

@@ -101,8 +101,8 @@ pub struct Arm {
     pub body: BodyId,
 }
 
-// By number, not by Box: boxes nested deeply would be let go by recursion on the host's stack, and each function that holds
-// references into trees took the prover about twenty seconds.
+// By number and not as Box: nested boxes would be let go by recursion on the host's stack, which is a rule of the project to avoid, and
+// each function that held references into the trees took the prover about twenty seconds.
 #[derive(Drop)]
 pub struct Nodes {
     pub exprs: Vec<Expr>,
