@@ -7,4 +7,6 @@ pub mod fault;
 pub mod parse;
 mod parse_body;
 mod parse_expr;
+mod parse_ways;
+mod precedence;
 pub mod tree;

@@ -3,37 +3,9 @@
 use crate::cursor::Cursor;
 use crate::fault::Fault;
 use crate::parse_expr::expression;
-use crate::tree::{Access, Alt, Arm, Body, BodyId, ExprId, Name, Span, Stmt, Tail, append};
+use crate::parse_ways::{access, branches, ways};
+use crate::tree::{Access, Alt, Arm, Body, BodyId, Name, Span, Stmt, Tail, append};
 use lexer::{Keyword, Sign, Token};
-
-// Goes past the word for an access, if one is next.
-fn access(cursor: &mut Cursor) -> Option<Access> {
-    let way = match cursor.peek()? {
-        Token::Reserved(Keyword::Take) => Access::Take,
-        Token::Reserved(Keyword::View) => Access::View,
-        Token::Reserved(Keyword::Edit) => Access::Edit,
-        Token::Reserved(_)
-        | Token::Mark(_)
-        | Token::Lower(_)
-        | Token::Upper(_)
-        | Token::Number(_)
-        | Token::BadNumber
-        | Token::Other => return None,
-    };
-    cursor.skip();
-    Some(way)
-}
-
-// (x, y, ..), or nothing.
-fn names(cursor: &mut Cursor) -> Result<Span, Fault> {
-    let found = if cursor.accept(Token::Mark(Sign::LeftParen)) {
-        cursor.listed(Cursor::lower)?
-    } else {
-        Vec::new(cursor.heap)
-    };
-    cursor.count(found.len() as u64);
-    append(&mut cursor.nodes.names, found.as_slice())
-}
 
 // Behind let.
 fn binding(cursor: &mut Cursor) -> Result<Stmt, Fault> {
@@ -62,39 +34,6 @@ fn assignment(cursor: &mut Cursor, name: Name) -> Result<Stmt, Fault> {
     cursor.expect(Token::Mark(Sign::Gets))?;
     let value = cursor.up_to(Sign::Semicolon, expression)?;
     Ok(Stmt::Assign(name, value))
-}
-
-// A test, and what is read behind it and again behind else.
-fn branches<T: Drop, F: FnMut(&mut Cursor) -> Result<T, Fault>>(
-    cursor: &mut Cursor,
-    mut read: F,
-) -> Result<(ExprId, T, T), Fault>
-    requires { F.IsAlwaysCallable read }
-{
-    let test = expression(cursor)?;
-    let yes = read(cursor)?;
-    cursor.expect(Token::Reserved(Keyword::Else))?;
-    let no = read(cursor)?;
-    Ok((test, yes, no))
-}
-
-// The ways of a match, up to }: of each its constructor, the names of its parts, and what is read behind them.
-fn ways<T: Drop, F: FnMut(&mut Cursor, Name, Span) -> Result<T, Fault>>(
-    cursor: &mut Cursor,
-    mut read: F,
-) -> Result<Vec<T>, Fault>
-    requires { F.IsAlwaysCallable read }
-{
-    let mut found = Vec::new(cursor.heap);
-    for _ in 0..u64::MAX {
-        if cursor.accept(Token::Mark(Sign::RightBrace)) {
-            break;
-        }
-        let ctor = cursor.upper()?;
-        let names = names(cursor)?;
-        found.push(read(cursor, ctor, names)?)?;
-    }
-    Ok(found)
 }
 
 #[cycle(nested_statements)]

@@ -1,6 +1,7 @@
 // Expressions, read with a stack of what is still open: parentheses and operators may nest deeply, and the host's stack is small.
 use crate::cursor::Cursor;
 use crate::fault::Fault;
+use crate::precedence::{Precedence, binds, operator};
 use crate::tree::{Expr, ExprId, Name, Operator, Span, append};
 use lexer::{Keyword, Sign, Token};
 
@@ -20,41 +21,6 @@ enum Pending {
     BoxOf,
     Left(Operator, ExprId),
     Arguments(Callee, Vec<ExprId>),
-}
-
-// How tightly an operator binds.
-#[derive(Clone, Copy, PartialEq, Eq, PartialOrd, Ord)]
-enum Precedence {
-    Comparison,
-    Sum,
-    Product,
-}
-
-fn binds(op: Operator) -> Precedence {
-    match op {
-        Operator::Equal | Operator::Less => Precedence::Comparison,
-        Operator::Add | Operator::Sub => Precedence::Sum,
-        Operator::Mul | Operator::Div | Operator::Rem => Precedence::Product,
-    }
-}
-
-fn operator(token: Option<Token>) -> Option<Operator> {
-    match token? {
-        Token::Mark(Sign::Equal) => Some(Operator::Equal),
-        Token::Mark(Sign::Less) => Some(Operator::Less),
-        Token::Mark(Sign::Plus) => Some(Operator::Add),
-        Token::Mark(Sign::Minus) => Some(Operator::Sub),
-        Token::Mark(Sign::Star) => Some(Operator::Mul),
-        Token::Mark(Sign::Slash) => Some(Operator::Div),
-        Token::Mark(Sign::Percent) => Some(Operator::Rem),
-        Token::Mark(_)
-        | Token::Reserved(_)
-        | Token::Lower(_)
-        | Token::Upper(_)
-        | Token::Number(_)
-        | Token::BadNumber
-        | Token::Other => None,
-    }
 }
 
 // An expression that is being read. An operand is none where something was opened before it.
