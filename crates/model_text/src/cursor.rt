@@ -1,94 +1,82 @@
-// The tokens that are still to be read.
+// The tokens that are still to be read, and what was made of those before them.
 use crate::fault::Fault;
-use crate::token::{Keyword, Sign, Token};
 use crate::tree::{Expr, ExprId, Name, Nodes};
+use lexer::{Lexer, Sign, Token, name_bytes};
 use std::alloc::Global;
+use std::collections::BTreeMap;
 
 #[derive(Drop)]
-pub struct Cursor {
+pub struct Cursor<'t> {
     pub heap: Global,
-    tokens: Vec<Token>,
-    at: usize,
-    // what was made of those that were read
+    text: &'t [u8],
+    lexer: Lexer<'t>,
+    // of each name that was read, by its spelling: where it first stands
+    names: BTreeMap<&'t [u8], Name>,
     pub nodes: Nodes,
-    // how many pieces that has; 2^64 - 1 stands for more
+    // how many pieces the nodes have; 2^64 - 1 stands for more
     pub pieces: u64,
 }
 
-impl Cursor {
-    pub fn new(heap: Global, tokens: Vec<Token>) -> Self {
+impl<'t> Cursor<'t> {
+    pub fn new(heap: Global, text: &'t [u8]) -> Self {
         Cursor {
             heap,
-            tokens,
-            at: 0,
+            text,
+            lexer: Lexer::new(text),
+            names: BTreeMap::new(heap),
             nodes: Nodes::new(heap),
             pieces: 0,
         }
     }
 
-    pub fn peek(&self) -> Token {
-        match self.tokens.get(self.at) {
-            Some(token) => *token,
-            None => Token::End,
-        }
+    // The name of that spelling, if it was read.
+    pub fn known(&self, spelling: &[u8]) -> Option<Name> {
+        self.names.get(spelling).copied()
+    }
+
+    // Where the name's spelling first stands.
+    fn first(&mut self, name: Name) -> Result<Name, Fault> {
+        let spelling = name_bytes(self.text, name);
+        Ok(*self.names.entry(spelling)?.or_insert(name))
+    }
+
+    pub fn peek(&self) -> Option<Token> {
+        self.lexer.peek()
     }
 
     pub fn skip(&mut self) {
-        if self.at < self.tokens.len() {
-            self.at += 1;
-        }
+        self.lexer.next();
     }
 
-    pub fn next(&mut self) -> Token {
-        let token = self.peek();
-        self.skip();
-        token
-    }
-
-    pub fn is_at_sign(&self, sign: Sign) -> bool {
-        match self.peek() {
-            Token::Sign(s) => s == sign,
-            Token::Lower(_)
-            | Token::Upper(_)
+    // The next token, which must be there.
+    pub fn next(&mut self) -> Result<Token, Fault> {
+        let token = self.lexer.next().ok_or(Fault::NoText)?;
+        match token {
+            Token::Lower(name) => Ok(Token::Lower(self.first(name)?)),
+            Token::Upper(name) => Ok(Token::Upper(self.first(name)?)),
+            Token::Reserved(_)
+            | Token::Mark(_)
             | Token::Number(_)
-            | Token::Keyword(_)
-            | Token::Unknown
-            | Token::End => false,
+            | Token::BadNumber
+            | Token::Other => Ok(token),
         }
     }
 
-    pub fn is_at_keyword(&self, key: Keyword) -> bool {
-        match self.peek() {
-            Token::Keyword(k) => k == key,
-            Token::Lower(_)
-            | Token::Upper(_)
-            | Token::Number(_)
-            | Token::Sign(_)
-            | Token::Unknown
-            | Token::End => false,
-        }
+    pub fn is_at(&self, token: Token) -> bool {
+        self.peek() == Some(token)
     }
 
-    // Goes past the sign, if it is next.
-    pub fn accept(&mut self, sign: Sign) -> bool {
-        let there = self.is_at_sign(sign);
+    // Goes past the token, if it is next.
+    pub fn accept(&mut self, token: Token) -> bool {
+        let there = self.is_at(token);
         if there {
             self.skip();
         }
         there
     }
 
-    pub fn expect(&mut self, sign: Sign) -> Result<(), Fault> {
-        if self.accept(sign) {
-            Ok(())
-        } else {
-            Err(Fault::NoText)
-        }
-    }
-
-    pub fn expect_keyword(&mut self, key: Keyword) -> Result<(), Fault> {
-        if self.is_at_keyword(key) {
-            self.skip();
+    pub fn expect(&mut self, token: Token) -> Result<(), Fault> {
+        if self.accept(token) {
             Ok(())
         } else {
             Err(Fault::NoText)
@@ -97,28 +85,61 @@ impl Cursor {
 
     // A name of a variable, a function or a type.
     pub fn lower(&mut self) -> Result<Name, Fault> {
-        match self.next() {
-            Token::Lower(name) => Ok(name),
-            Token::Upper(_)
-            | Token::Number(_)
-            | Token::Keyword(_)
-            | Token::Sign(_)
-            | Token::Unknown
-            | Token::End => Err(Fault::NoText),
-        }
+        let Token::Lower(name) = self.next()? else {
+            return Err(Fault::NoText);
+        };
+        Ok(name)
     }
 
     // A name of a constructor.
     pub fn upper(&mut self) -> Result<Name, Fault> {
-        match self.next() {
-            Token::Upper(name) => Ok(name),
-            Token::Lower(_)
-            | Token::Number(_)
-            | Token::Keyword(_)
-            | Token::Sign(_)
-            | Token::Unknown
-            | Token::End => Err(Fault::NoText),
+        let Token::Upper(name) = self.next()? else {
+            return Err(Fault::NoText);
+        };
+        Ok(name)
+    }
+
+    // What `read` reads, and the sign behind it.
+    pub fn up_to<T: Drop, F: FnOnce(&mut Self) -> Result<T, Fault>>(
+        &mut self,
+        sign: Sign,
+        read: F,
+    ) -> Result<T, Fault>
+        requires { F.IsAlwaysCallable read }
+    {
+        let found = read(self)?;
+        self.expect(Token::Mark(sign))?;
+        Ok(found)
+    }
+
+    // One or more of what `read` reads, with the sign between each two.
+    pub fn separated<T: Drop, F: FnMut(&mut Self) -> Result<T, Fault>>(
+        &mut self,
+        sign: Sign,
+        mut read: F,
+    ) -> Result<Vec<T>, Fault>
+        requires { F.IsAlwaysCallable read }
+    {
+        let mut found = Vec::new(self.heap);
+        for _ in 0..u64::MAX {
+            found.push(read(self)?)?;
+            if !self.accept(Token::Mark(sign)) {
+                break;
+            }
         }
+        Ok(found)
+    }
+
+    // The same with commas, behind ( up to ).
+    pub fn listed<T: Drop, F: FnMut(&mut Self) -> Result<T, Fault>>(
+        &mut self,
+        read: F,
+    ) -> Result<Vec<T>, Fault>
+        requires { F.IsAlwaysCallable read }
+    {
+        let found = self.separated(Sign::Comma, read)?;
+        self.expect(Token::Mark(Sign::RightParen))?;
+        Ok(found)
     }
 
     // So many pieces more.

@@ -11,6 +11,7 @@ pub enum Fault {
     Memory,
 }
 
+// By hand: no derive writes the second one, which is for each type of what was not stored.
 impl From<AllocError> for Fault {
     fn from(_: AllocError) -> Self {
         Fault::Memory

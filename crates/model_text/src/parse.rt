@@ -2,125 +2,94 @@
 use crate::cursor::Cursor;
 use crate::fault::Fault;
 use crate::parse_body::body;
-use crate::token::{Keyword, Sign, Token, tokenize};
-use crate::tree::{Base, Ctor, Data, Function, Name, Param, Prefix, Program, Type};
+use crate::tree::{Base, Ctor, Data, Function, Param, Prefix, Program, Type};
+use lexer::{Keyword, Sign, Token};
 use std::alloc::Global;
 
 // So many levels of braces may be open at a time.
 const MOST_BRACES: usize = 5_000;
 
-// The prefixes before a type, and the type's first token behind them.
-fn prefixes(cursor: &mut Cursor) -> Result<(Vec<Prefix>, Token), Fault> {
-    let mut found = Vec::new(cursor.heap);
-    for _ in 0..u64::MAX {
-        let token = cursor.next();
-        match token {
-            Token::Keyword(Keyword::Box) => found.push(Prefix::Box)?,
-            Token::Keyword(Keyword::Ref) => found.push(Prefix::Ref)?,
-            Token::Keyword(Keyword::Mut) => found.push(Prefix::Mut)?,
-            Token::Keyword(_)
-            | Token::Lower(_)
-            | Token::Upper(_)
-            | Token::Number(_)
-            | Token::Sign(_)
-            | Token::Unknown
-            | Token::End => {
-                return Ok((found, token));
-            }
-        }
-    }
-    Err(Fault::TooDeep)
+// Goes past the word for a prefix, if one is next.
+fn prefix(cursor: &mut Cursor) -> Option<Prefix> {
+    let prefix = match cursor.peek()? {
+        Token::Reserved(Keyword::Box) => Prefix::Box,
+        Token::Reserved(Keyword::Ref) => Prefix::Ref,
+        Token::Reserved(Keyword::Mut) => Prefix::Mut,
+        Token::Reserved(_)
+        | Token::Mark(_)
+        | Token::Lower(_)
+        | Token::Upper(_)
+        | Token::Number(_)
+        | Token::BadNumber
+        | Token::Other => return None,
+    };
+    cursor.skip();
+    Some(prefix)
 }
 
 fn a_type(cursor: &mut Cursor) -> Result<Type, Fault> {
-    let (prefixes, token) = prefixes(cursor)?;
-    let base = match token {
-        Token::Keyword(Keyword::Int) => Base::Int,
+    let mut prefixes = Vec::new(cursor.heap);
+    for _ in 0..u64::MAX {
+        let Some(prefix) = prefix(cursor) else {
+            break;
+        };
+        prefixes.push(prefix)?;
+    }
+    let base = match cursor.next()? {
+        Token::Reserved(Keyword::Int) => Base::Int,
         Token::Lower(name) => Base::Data(name),
-        Token::Keyword(_)
+        Token::Reserved(_)
+        | Token::Mark(_)
         | Token::Upper(_)
         | Token::Number(_)
-        | Token::Sign(_)
-        | Token::Unknown
-        | Token::End => return Err(Fault::NoText),
+        | Token::BadNumber
+        | Token::Other => return Err(Fault::NoText),
     };
     Ok(Type { prefixes, base })
 }
 
-// The types behind ( up to ).
-fn types(cursor: &mut Cursor) -> Result<Vec<Type>, Fault> {
-    let mut found = Vec::new(cursor.heap);
-    for _ in 0..u64::MAX {
-        found.push(a_type(cursor)?)?;
-        if !cursor.accept(Sign::Comma) {
-            break;
-        }
-    }
-    cursor.expect(Sign::RightParen)?;
-    Ok(found)
-}
-
 fn constructor(cursor: &mut Cursor) -> Result<Ctor, Fault> {
     let name = cursor.upper()?;
-    let fields = if cursor.accept(Sign::LeftParen) {
-        types(cursor)?
+    let fields = if cursor.accept(Token::Mark(Sign::LeftParen)) {
+        cursor.listed(a_type)?
     } else {
         Vec::new(cursor.heap)
     };
     Ok(Ctor { name, fields })
 }
 
-fn constructors(cursor: &mut Cursor) -> Result<Vec<Ctor>, Fault> {
-    let mut found = Vec::new(cursor.heap);
-    for _ in 0..u64::MAX {
-        found.push(constructor(cursor)?)?;
-        if !cursor.accept(Sign::Bar) {
-            break;
-        }
-    }
-    Ok(found)
-}
-
 // Behind data.
 fn a_data(cursor: &mut Cursor) -> Result<Data, Fault> {
     let name = cursor.lower()?;
-    cursor.expect(Sign::Equals)?;
-    let ctors = constructors(cursor)?;
-    let last = if cursor.is_at_keyword(Keyword::Drop) {
-        cursor.skip();
+    cursor.expect(Token::Mark(Sign::Gets))?;
+    let ctors = cursor.separated(Sign::Bar, constructor)?;
+    let last = if cursor.accept(Token::Reserved(Keyword::Drop)) {
         Some(cursor.lower()?)
     } else {
         None
     };
-    cursor.expect(Sign::Semicolon)?;
+    cursor.expect(Token::Mark(Sign::Semicolon))?;
     Ok(Data { name, ctors, last })
 }
 
-// The parameters behind ( up to ).
+fn parameter(cursor: &mut Cursor) -> Result<Param, Fault> {
+    let name = cursor.up_to(Sign::Colon, Cursor::lower)?;
+    let ty = a_type(cursor)?;
+    Ok(Param { name, ty })
+}
+
+// Behind (.
 fn parameters(cursor: &mut Cursor) -> Result<Vec<Param>, Fault> {
-    let mut found = Vec::new(cursor.heap);
-    if cursor.accept(Sign::RightParen) {
-        return Ok(found);
+    if cursor.accept(Token::Mark(Sign::RightParen)) {
+        return Ok(Vec::new(cursor.heap));
     }
-    for _ in 0..u64::MAX {
-        let name = cursor.lower()?;
-        cursor.expect(Sign::Colon)?;
-        let ty = a_type(cursor)?;
-        found.push(Param { name, ty })?;
-        if !cursor.accept(Sign::Comma) {
-            break;
-        }
-    }
-    cursor.expect(Sign::RightParen)?;
-    Ok(found)
+    cursor.listed(parameter)
 }
 
 // Behind fn.
 fn a_function(cursor: &mut Cursor) -> Result<Function, Fault> {
-    let name = cursor.lower()?;
-    cursor.expect(Sign::LeftParen)?;
-    let params = parameters(cursor)?;
-    cursor.expect(Sign::Colon)?;
+    let name = cursor.up_to(Sign::LeftParen, Cursor::lower)?;
+    let params = cursor.up_to(Sign::Colon, parameters)?;
     let gives = a_type(cursor)?;
     cursor.pieces = 0;
     let body = body(cursor, MOST_BRACES)?;
@@ -133,33 +102,32 @@ fn a_function(cursor: &mut Cursor) -> Result<Function, Fault> {
     })
 }
 
-fn items(mut cursor: Cursor, main: Option<Name>) -> Result<Program, Fault> {
-    let mut datas = Vec::new(cursor.heap);
-    let mut functions = Vec::new(cursor.heap);
+// The program that the text is.
+pub fn read(heap: Global, text: &[u8]) -> Result<Program, Fault> {
+    let mut cursor = Cursor::new(heap, text);
+    let mut datas = Vec::new(heap);
+    let mut functions = Vec::new(heap);
     for _ in 0..u64::MAX {
-        match cursor.next() {
-            Token::Keyword(Keyword::Data) => datas.push(a_data(&mut cursor)?)?,
-            Token::Keyword(Keyword::Fn) => functions.push(a_function(&mut cursor)?)?,
-            Token::End => break,
-            Token::Keyword(_)
+        if cursor.peek().is_none() {
+            break;
+        }
+        match cursor.next()? {
+            Token::Reserved(Keyword::Data) => datas.push(a_data(&mut cursor)?)?,
+            Token::Reserved(Keyword::Fn) => functions.push(a_function(&mut cursor)?)?,
+            Token::Reserved(_)
+            | Token::Mark(_)
             | Token::Lower(_)
             | Token::Upper(_)
             | Token::Number(_)
-            | Token::Sign(_)
-            | Token::Unknown => return Err(Fault::NoText),
+            | Token::BadNumber
+            | Token::Other => return Err(Fault::NoText),
         }
     }
+    let main = cursor.known(b"main");
     Ok(Program {
         datas,
         functions,
         nodes: cursor.nodes,
         main,
     })
-}
-
-// The program that the text is.
-pub fn read(heap: Global, text: &[u8]) -> Result<Program, Fault> {
-    let found = tokenize(heap, text)?;
-    let main = found.known(b"main");
-    items(Cursor::new(heap, found.tokens), main)
 }

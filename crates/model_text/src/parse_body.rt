@@ -1,108 +1,44 @@
-// Statements and bodies, by recursive descent. `depth` is how many levels of braces a reading may still go down.
+// Statements and bodies, by recursive descent. `depth` is how many levels of braces a reading may still go down. It is an argument and
+// no field of the cursor, so that it is what it was when a block has been read, and the recursion is seen to end by it.
 use crate::cursor::Cursor;
 use crate::fault::Fault;
 use crate::parse_expr::expression;
-use crate::token::{Keyword, Sign, Token};
-use crate::tree::{Access, Alt, Arm, Body, BodyId, ExprId, Name, Span, Stmt, Tail, append};
-
-fn access(token: Token) -> Option<Access> {
-    let Token::Keyword(key) = token else {
-        return None;
-    };
-    match key {
-        Keyword::Take => Some(Access::Take),
-        Keyword::View => Some(Access::View),
-        Keyword::Edit => Some(Access::Edit),
-        Keyword::Data
-        | Keyword::Drop
-        | Keyword::By
-        | Keyword::Fn
-        | Keyword::Let
-        | Keyword::Put
-        | Keyword::If
-        | Keyword::Else
-        | Keyword::While
-        | Keyword::Open
-        | Keyword::Inside
-        | Keyword::Give
-        | Keyword::Box
-        | Keyword::Ref
-        | Keyword::Mut
-        | Keyword::Int
-        | Keyword::Get => None,
-    }
-}
-
-// (x, y, ..), or nothing.
-fn names(cursor: &mut Cursor) -> Result<Span, Fault> {
-    let start = cursor.nodes.names.len();
-    if !cursor.accept(Sign::LeftParen) {
-        return Ok(Span { start, end: start });
-    }
-    for _ in 0..u64::MAX {
-        let name = cursor.lower()?;
-        cursor.nodes.names.push(name)?;
-        cursor.count(1);
-        if !cursor.accept(Sign::Comma) {
-            break;
-        }
-    }
-    cursor.expect(Sign::RightParen)?;
-    Ok(Span {
-        start,
-        end: cursor.nodes.names.len(),
-    })
-}
-
-// An expression, and the semicolon behind it.
-fn closed(cursor: &mut Cursor) -> Result<ExprId, Fault> {
-    let value = expression(cursor)?;
-    cursor.expect(Sign::Semicolon)?;
-    Ok(value)
-}
-
-// A name, and the semicolon behind it.
-fn closed_name(cursor: &mut Cursor) -> Result<Name, Fault> {
-    let name = cursor.lower()?;
-    cursor.expect(Sign::Semicolon)?;
-    Ok(name)
-}
+use crate::parse_ways::{access, branches, ways};
+use crate::tree::{Access, Alt, Arm, Body, BodyId, Name, Span, Stmt, Tail, append};
+use lexer::{Keyword, Sign, Token};
 
 // Behind let.
 fn binding(cursor: &mut Cursor) -> Result<Stmt, Fault> {
-    let name = cursor.lower()?;
-    cursor.expect(Sign::Equals)?;
-    if cursor.is_at_keyword(Keyword::Open) {
-        cursor.skip();
-        Ok(Stmt::Open(name, closed_name(cursor)?))
-    } else if cursor.is_at_keyword(Keyword::Inside) {
-        cursor.skip();
-        Ok(Stmt::Inside(name, closed_name(cursor)?))
+    let name = cursor.up_to(Sign::Gets, Cursor::lower)?;
+    if cursor.accept(Token::Reserved(Keyword::Open)) {
+        let from = cursor.up_to(Sign::Semicolon, Cursor::lower)?;
+        Ok(Stmt::Open(name, from))
+    } else if cursor.accept(Token::Reserved(Keyword::Inside)) {
+        let from = cursor.up_to(Sign::Semicolon, Cursor::lower)?;
+        Ok(Stmt::Inside(name, from))
     } else {
-        Ok(Stmt::Bind(name, closed(cursor)?))
+        let value = cursor.up_to(Sign::Semicolon, expression)?;
+        Ok(Stmt::Bind(name, value))
     }
 }
 
 // Behind the star of *r = e.
 fn storing(cursor: &mut Cursor) -> Result<Stmt, Fault> {
-    let name = cursor.lower()?;
-    cursor.expect(Sign::Equals)?;
-    Ok(Stmt::Store(name, closed(cursor)?))
+    let name = cursor.up_to(Sign::Gets, Cursor::lower)?;
+    let value = cursor.up_to(Sign::Semicolon, expression)?;
+    Ok(Stmt::Store(name, value))
 }
 
-// A match's name, and the brace behind it.
-fn matched(cursor: &mut Cursor) -> Result<Name, Fault> {
-    let name = cursor.lower()?;
-    cursor.expect(Sign::LeftBrace)?;
-    Ok(name)
+// Behind the name of x = e.
+fn assignment(cursor: &mut Cursor, name: Name) -> Result<Stmt, Fault> {
+    cursor.expect(Token::Mark(Sign::Gets))?;
+    let value = cursor.up_to(Sign::Semicolon, expression)?;
+    Ok(Stmt::Assign(name, value))
 }
 
 #[cycle(nested_statements)]
 fn conditional(cursor: &mut Cursor, depth: usize) -> Result<Stmt, Fault> {
-    let test = expression(cursor)?;
-    let yes = block(cursor, depth)?;
-    cursor.expect_keyword(Keyword::Else)?;
-    let no = block(cursor, depth)?;
+    let (test, yes, no) = branches(cursor, |cursor| block(cursor, depth))?;
     Ok(Stmt::If(test, yes, no))
 }
 
@@ -115,43 +51,36 @@ fn looping(cursor: &mut Cursor, depth: usize) -> Result<Stmt, Fault> {
 
 #[cycle(nested_statements)]
 fn matching(cursor: &mut Cursor, depth: usize, way: Access) -> Result<Stmt, Fault> {
-    let name = matched(cursor)?;
-    let mut ways = Vec::new(cursor.heap);
-    for _ in 0..u64::MAX {
-        if cursor.accept(Sign::RightBrace) {
-            break;
-        }
-        let ctor = cursor.upper()?;
-        let names = names(cursor)?;
+    let name = cursor.up_to(Sign::LeftBrace, Cursor::lower)?;
+    let ways = ways(cursor, |cursor, ctor, names| {
         let block = block(cursor, depth)?;
-        ways.push(Alt { ctor, names, block })?;
-    }
-    let alts = append(&mut cursor.nodes.alts, &ways)?;
+        Ok(Alt { ctor, names, block })
+    })?;
+    let alts = append(&mut cursor.nodes.alts, ways.as_slice())?;
     Ok(Stmt::Match(way, name, alts))
 }
 
 #[cycle(nested_statements)]
 fn statement(cursor: &mut Cursor, depth: usize) -> Result<Stmt, Fault> {
-    let token = cursor.next();
-    if let Some(way) = access(token) {
+    if let Some(way) = access(cursor) {
         return matching(cursor, depth, way);
     }
-    match token {
-        Token::Keyword(Keyword::Let) => binding(cursor),
-        Token::Keyword(Keyword::Put) => Ok(Stmt::Put(closed(cursor)?)),
-        Token::Keyword(Keyword::If) => conditional(cursor, depth),
-        Token::Keyword(Keyword::While) => looping(cursor, depth),
-        Token::Sign(Sign::Star) => storing(cursor),
-        Token::Lower(name) => {
-            cursor.expect(Sign::Equals)?;
-            Ok(Stmt::Assign(name, closed(cursor)?))
+    match cursor.next()? {
+        Token::Reserved(Keyword::Let) => binding(cursor),
+        Token::Reserved(Keyword::Put) => {
+            let value = cursor.up_to(Sign::Semicolon, expression)?;
+            Ok(Stmt::Put(value))
         }
-        Token::Keyword(_)
-        | Token::Sign(_)
+        Token::Reserved(Keyword::If) => conditional(cursor, depth),
+        Token::Reserved(Keyword::While) => looping(cursor, depth),
+        Token::Mark(Sign::Star) => storing(cursor),
+        Token::Lower(name) => assignment(cursor, name),
+        Token::Reserved(_)
+        | Token::Mark(_)
         | Token::Upper(_)
         | Token::Number(_)
-        | Token::Unknown
-        | Token::End => Err(Fault::NoText),
+        | Token::BadNumber
+        | Token::Other => Err(Fault::NoText),
     }
 }
 
@@ -160,50 +89,41 @@ fn statement(cursor: &mut Cursor, depth: usize) -> Result<Stmt, Fault> {
 fn statements(cursor: &mut Cursor, depth: usize) -> Result<Span, Fault> {
     let mut items = Vec::new(cursor.heap);
     for _ in 0..u64::MAX {
-        if cursor.is_at_sign(Sign::RightBrace) || cursor.is_at_keyword(Keyword::Give) {
+        if cursor.is_at(Token::Mark(Sign::RightBrace))
+            || cursor.is_at(Token::Reserved(Keyword::Give))
+        {
             break;
         }
         let item = statement(cursor, depth)?;
         cursor.count(1);
         items.push(item)?;
     }
-    append(&mut cursor.nodes.stmts, &items)
+    append(&mut cursor.nodes.stmts, items.as_slice())
 }
 
 #[cycle(nested_statements)]
 fn block(cursor: &mut Cursor, depth: usize) -> Result<Span, Fault> {
-    if depth == 0 {
-        return Err(Fault::TooDeep);
-    }
-    cursor.expect(Sign::LeftBrace)?;
-    let does = statements(cursor, depth - 1)?;
-    cursor.expect(Sign::RightBrace)?;
+    let below = depth.checked_sub(1).ok_or(Fault::TooDeep)?;
+    cursor.expect(Token::Mark(Sign::LeftBrace))?;
+    let does = statements(cursor, below)?;
+    cursor.expect(Token::Mark(Sign::RightBrace))?;
     Ok(does)
 }
 
 #[cycle(nested_bodies)]
 fn giving_if(cursor: &mut Cursor, depth: usize) -> Result<Tail, Fault> {
-    let test = expression(cursor)?;
-    let yes = body(cursor, depth)?;
-    cursor.expect_keyword(Keyword::Else)?;
-    let no = body(cursor, depth)?;
+    let (test, yes, no) = branches(cursor, |cursor| body(cursor, depth))?;
     Ok(Tail::GiveIf(test, yes, no))
 }
 
 #[cycle(nested_bodies)]
 fn giving_match(cursor: &mut Cursor, depth: usize, way: Access) -> Result<Tail, Fault> {
-    let name = matched(cursor)?;
-    let mut ways = Vec::new(cursor.heap);
-    for _ in 0..u64::MAX {
-        if cursor.accept(Sign::RightBrace) {
-            break;
-        }
-        let ctor = cursor.upper()?;
-        let names = names(cursor)?;
+    let name = cursor.up_to(Sign::LeftBrace, Cursor::lower)?;
+    let ways = ways(cursor, |cursor, ctor, names| {
         let body = body(cursor, depth)?;
-        ways.push(Arm { ctor, names, body })?;
-    }
-    let arms = append(&mut cursor.nodes.arms, &ways)?;
+        Ok(Arm { ctor, names, body })
+    })?;
+    let arms = append(&mut cursor.nodes.arms, ways.as_slice())?;
     cursor.count(1);
     Ok(Tail::GiveMatch(way, name, arms))
 }
@@ -211,12 +131,10 @@ fn giving_match(cursor: &mut Cursor, depth: usize, way: Access) -> Result<Tail, 
 // Behind give.
 #[cycle(nested_bodies)]
 fn tail(cursor: &mut Cursor, depth: usize) -> Result<Tail, Fault> {
-    if cursor.is_at_keyword(Keyword::If) {
-        cursor.skip();
+    if cursor.accept(Token::Reserved(Keyword::If)) {
         return giving_if(cursor, depth);
     }
-    if let Some(way) = access(cursor.peek()) {
-        cursor.skip();
+    if let Some(way) = access(cursor) {
         return giving_match(cursor, depth, way);
     }
     Ok(Tail::Give(expression(cursor)?))
@@ -224,14 +142,12 @@ fn tail(cursor: &mut Cursor, depth: usize) -> Result<Tail, Fault> {
 
 #[cycle(nested_bodies)]
 pub fn body(cursor: &mut Cursor, depth: usize) -> Result<BodyId, Fault> {
-    if depth == 0 {
-        return Err(Fault::TooDeep);
-    }
-    cursor.expect(Sign::LeftBrace)?;
-    let block = statements(cursor, depth - 1)?;
-    cursor.expect_keyword(Keyword::Give)?;
-    let tail = tail(cursor, depth - 1)?;
-    cursor.expect(Sign::RightBrace)?;
+    let below = depth.checked_sub(1).ok_or(Fault::TooDeep)?;
+    cursor.expect(Token::Mark(Sign::LeftBrace))?;
+    let block = statements(cursor, below)?;
+    cursor.expect(Token::Reserved(Keyword::Give))?;
+    let tail = tail(cursor, below)?;
+    cursor.expect(Token::Mark(Sign::RightBrace))?;
     let id = BodyId(cursor.nodes.bodies.len());
     cursor.nodes.bodies.push(Body { block, tail })?;
     Ok(id)

@@ -1,11 +1,10 @@
 // Programs as trees. The nodes lie in lists, one for each kind, and a node has its parts by their numbers: so a tree is let go without
 // going down into it, however deep it is, and what runs it can keep numbers in place of references.
 use crate::fault::Fault;
+pub use code::{Access, Operator};
 use std::alloc::Global;
-
-// A name, by its number among the names of the text: equal names have equal numbers.
-#[derive(Clone, Copy, PartialEq, Eq)]
-pub struct Name(pub usize);
+// A name, by the place where its spelling first stands in the text: names that are spelled alike are equal.
+pub use lexer::Name;
 
 #[derive(Clone, Copy)]
 pub struct ExprId(pub usize);
@@ -41,17 +40,6 @@ pub struct Type {
 }
 
 #[derive(Clone, Copy)]
-pub enum Operator {
-    Add,
-    Subtract,
-    Multiply,
-    Divide,
-    Remainder,
-    Equal,
-    Less,
-}
-
-#[derive(Clone, Copy)]
 pub enum Expr {
     Number(u64),
     Variable(Name),
@@ -66,14 +54,6 @@ pub enum Expr {
     // *r
     Load(Name),
     Get,
-}
-
-// How a match comes at what it looks into.
-#[derive(Clone, Copy)]
-pub enum Access {
-    Take,
-    View,
-    Edit,
 }
 
 #[derive(Clone, Copy)]
@@ -121,6 +101,8 @@ pub struct Arm {
     pub body: BodyId,
 }
 
+// By number and not as Box: nested boxes would be let go by recursion on the host's stack, which is a rule of the project to avoid, and
+// each function that held references into the trees took the prover about twenty seconds.
 #[derive(Drop)]
 pub struct Nodes {
     pub exprs: Vec<Expr>,
@@ -188,11 +170,9 @@ impl Nodes {
 }
 
 // Puts nodes behind those that are there: where they lie.
-pub fn append<T: Copy>(list: &mut Vec<T>, more: &Vec<T>) -> Result<Span, Fault> {
+pub fn append<T: Copy>(list: &mut Vec<T>, more: &[T]) -> Result<Span, Fault> {
     let start = list.len();
-    for one in more.iter() {
-        list.push(*one)?;
-    }
+    list.extend_from_slice(more)?;
     Ok(Span {
         start,
         end: list.len(),

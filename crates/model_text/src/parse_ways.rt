@@ -1,0 +1,68 @@
+// What an if and a match between statements share with those that give something.
+use crate::cursor::Cursor;
+use crate::fault::Fault;
+use crate::parse_expr::expression;
+use crate::tree::{Access, ExprId, Name, Span, append};
+use lexer::{Keyword, Sign, Token};
+
+// Goes past the word for an access, if one is next.
+pub fn access(cursor: &mut Cursor) -> Option<Access> {
+    let way = match cursor.peek()? {
+        Token::Reserved(Keyword::Take) => Access::Take,
+        Token::Reserved(Keyword::View) => Access::View,
+        Token::Reserved(Keyword::Edit) => Access::Edit,
+        Token::Reserved(_)
+        | Token::Mark(_)
+        | Token::Lower(_)
+        | Token::Upper(_)
+        | Token::Number(_)
+        | Token::BadNumber
+        | Token::Other => return None,
+    };
+    cursor.skip();
+    Some(way)
+}
+
+// (x, y, ..), or nothing.
+fn names(cursor: &mut Cursor) -> Result<Span, Fault> {
+    let found = if cursor.accept(Token::Mark(Sign::LeftParen)) {
+        cursor.listed(Cursor::lower)?
+    } else {
+        Vec::new(cursor.heap)
+    };
+    cursor.count(found.len() as u64);
+    append(&mut cursor.nodes.names, found.as_slice())
+}
+
+// A test, and what is read behind it and again behind else.
+pub fn branches<T: Drop, F: FnMut(&mut Cursor) -> Result<T, Fault>>(
+    cursor: &mut Cursor,
+    mut read: F,
+) -> Result<(ExprId, T, T), Fault>
+    requires { F.IsAlwaysCallable read }
+{
+    let test = expression(cursor)?;
+    let yes = read(cursor)?;
+    cursor.expect(Token::Reserved(Keyword::Else))?;
+    let no = read(cursor)?;
+    Ok((test, yes, no))
+}
+
+// The ways of a match, up to }: of each its constructor, the names of its parts, and what is read behind them.
+pub fn ways<T: Drop, F: FnMut(&mut Cursor, Name, Span) -> Result<T, Fault>>(
+    cursor: &mut Cursor,
+    mut read: F,
+) -> Result<Vec<T>, Fault>
+    requires { F.IsAlwaysCallable read }
+{
+    let mut found = Vec::new(cursor.heap);
+    for _ in 0..u64::MAX {
+        if cursor.accept(Token::Mark(Sign::RightBrace)) {
+            break;
+        }
+        let ctor = cursor.upper()?;
+        let names = names(cursor)?;
+        found.push(read(cursor, ctor, names)?)?;
+    }
+    Ok(found)
+}
