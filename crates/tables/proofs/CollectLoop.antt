@@ -7,7 +7,6 @@ use Rattle.std.specs.Option.{option_to_list}
 use Rattle.std.proofs.lemmas.List.{map-append}
 use Rattle.code.specs.Words.{instr_at, instrs_in, code_in}
 use Rattle.code.specs.declared.instr.Instr.TheVariants.{Num, Var, Int, Op, Make, Call, Arg, Apply, Box, Share, Lend, Load, Get, Bind, Assign, Store, Put, If, Else, EndIf, While, Do, EndWhile, Match, Arm, Part, Body, EndArm, EndMatch, Open, Inside, Give, EndFn, TyInt, TyData, TyBox, TyRef, TyMut, Field, Ctor, Data, Param, Fn}
-use Rattle.types.specs.declared.role.Role.TheVariants.{Passes}
 use Rattle.types.specs.Types.{role_of, role_in, after, written}
 use Rattle.language.specs.Base.{choose}
 use Rattle.language.specs.Syntax.{Ty}
@@ -69,7 +68,7 @@ written_step : (text code : List ℕ) (k : ℕ) (o : Option Instr) → (k + 1) *
 written_step text code k o h e =
     let s : k + 1 ≡ suc k = omega arith in
     let l : k < length code / 3 = omega arith in
-    ap (written text code) s ∙ ap (λ (b : Bool). after text (choose b (role_in (instr_at code k)) Passes) (written text code k)) (is_true _ (lt→ltb k (length code / 3) l)) ∙ ap (λ (o : Option Instr). after text (role_in o) (written text code k)) e
+    ap (written text code) s ∙ ap (λ (b : Bool). after text (choose b (role_in (instr_at code k)) None) (written text code k)) (is_true _ (lt→ltb k (length code / 3) l)) ∙ ap (λ (o : Option Instr). after text (role_in o) (written text code k)) e
 
 stands : (text code : List ℕ) (n k : ℕ) (i : Instr) → (k + 1) * 3 ≤ length code → instr_at code k ≡ Some i → Stands (source text code n) k (means text i)
 stands text code n k i l h = record { ty = written_step text code k (Some i) l h ∙ role_ty text i (written text code k); last = ap (last_in text) h }
