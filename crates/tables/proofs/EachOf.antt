@@ -32,12 +32,15 @@ all_long f s = each_long f s.first (s.end - s.first)
 pub few_yes : {A : Type 0} (f : ℕ → A) (s : Span) (b : Bool) → s.end - s.first ≤ 8 → (leb (length (all_in f s)) 8 && b) ≡ b
 few_yes f s b h = ap (λ n. leb n 8 && b) (all_long f s) ∙ ap (λ c. c && b) (is_true (leb (s.end - s.first) 8) (le→leb (s.end - s.first) 8 h))
 
-pub few_no : {A : Type 0} (f : ℕ → A) (s : Span) (b : Bool) → 8 < s.end - s.first → (leb (length (all_in f s)) 8 && b) ≡ false
-few_no f s b h = ap (λ n. leb n 8 && b) (all_long f s) ∙ ap (λ c. c && b) (at (leb (s.end - s.first) 8) refl)
+pub not_few : (n : ℕ) → 8 < n → leb n 8 ≡ false
+not_few n h = at (leb n 8) refl
   where
-    at : (c : Bool) → leb (s.end - s.first) 8 ≡ c → c ≡ false
-    at true e = let k = leb→le (s.end - s.first) 8 (is_T e) in absurd (omega arith)
+    at : (c : Bool) → leb n 8 ≡ c → c ≡ false
+    at true e = let k = leb→le n 8 (is_T e) in absurd (omega arith)
     at false e = refl
+
+pub few_no : {A : Type 0} (f : ℕ → A) (s : Span) (b : Bool) → 8 < s.end - s.first → (leb (length (all_in f s)) 8 && b) ≡ false
+few_no f s b h = ap (λ n. leb n 8 && b) (all_long f s) ∙ ap (λ c. c && b) (not_few (s.end - s.first) h)
 
 -- none, and what else is asked
 pub none_yes : {A : Type 0} (f : ℕ → A) (s : Span) (b : Bool) → s.end - s.first ≡ 0 → (eqb (length (all_in f s)) 0 && b) ≡ b

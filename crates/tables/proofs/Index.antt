@@ -65,5 +65,5 @@ first_inside p i (suc n) k e = at (p i) refl e (λ h. first_inside p (suc i) n k
 pub first_under : (p : ℕ → Bool) (s : Span) (k : ℕ) → first_in p s ≡ some k → k < s.end
 first_under p s k e = let r = first_inside p s.first (s.end - s.first) k e in let a = r.0 in let b = r.1 in omega arith
 
-pub from_zero : (p : ℕ → Bool) (n : ℕ) → first_in p (span 0 n) ≡ first_from p 0 n
-from_zero p n = let e : n - 0 ≡ n = omega arith in ap (first_from p 0) e
+pub from_zero : (p : ℕ → Bool) (n : ℕ) (s : Span) → s ≡ span 0 n → first_in p s ≡ first_from p 0 n
+from_zero p n s h = let e : n - 0 ≡ n = omega arith in ap (first_in p) h ∙ ap (first_from p 0) e

@@ -1,5 +1,6 @@
 pub mod Index
 pub mod Look
+pub mod Search
 pub mod RowWords
 pub mod Frame
 pub mod Declares
@@ -15,3 +16,4 @@ pub mod Once
 pub mod EachOf
 pub mod LastFn
 pub mod RestNames
+pub mod Faults

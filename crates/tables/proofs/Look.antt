@@ -34,14 +34,14 @@ sig_first f w i (suc n) = at (same (f i).name w) (sig_first f w (suc i) n)
     at true h = refl
     at false h = h
 
-pub data_is : (f : ℕ → Data) (w : Lexeme) (n : ℕ) (o : Option ℕ) → first_in (λ k. same (f k).name w) (span 0 n) ≡ o → data_named (each_from f 0 n) w ≡ if_some o (λ k. some (f k))
-data_is f w n o e = data_first f w 0 n ∙ ap (λ o. if_some o (λ k. some (f k))) (sym (from_zero _ n) ∙ e)
+pub data_is : (f : ℕ → Data) (w : Lexeme) (n : ℕ) (s : Span) (o : Option ℕ) → s ≡ span 0 n → first_in (λ k. same (f k).name w) s ≡ o → data_named (each_from f 0 n) w ≡ if_some o (λ k. some (f k))
+data_is f w n s o h e = data_first f w 0 n ∙ ap (λ o. if_some o (λ k. some (f k))) (sym (from_zero _ n s h) ∙ e)
 
 pub ctor_is : (f : ℕ → Ctor) (w : Lexeme) (s : Span) (o : Option ℕ) → first_in (λ k. same (f k).name w) s ≡ o → ctor_named (all_in f s) w ≡ if_some o (λ k. some (f k))
 ctor_is f w s o e = ctor_first f w s.first (s.end - s.first) ∙ ap (λ o. if_some o (λ k. some (f k))) e
 
-pub sig_is : (f : ℕ → Sig) (w : Lexeme) (n : ℕ) (o : Option ℕ) → first_in (λ k. same (f k).name w) (span 0 n) ≡ o → sig_named (each_from f 0 n) w ≡ if_some o (λ k. some (f k))
-sig_is f w n o e = sig_first f w 0 n ∙ ap (λ o. if_some o (λ k. some (f k))) (sym (from_zero _ n) ∙ e)
+pub sig_is : (f : ℕ → Sig) (w : Lexeme) (n : ℕ) (s : Span) (o : Option ℕ) → s ≡ span 0 n → first_in (λ k. same (f k).name w) s ≡ o → sig_named (each_from f 0 n) w ≡ if_some o (λ k. some (f k))
+sig_is f w n s o h e = sig_first f w 0 n ∙ ap (λ o. if_some o (λ k. some (f k))) (sym (from_zero _ n s h) ∙ e)
 
 -- a turn of the loop over data that looks for a constructor
 abbrev pub homes_from : (ℕ → Data) → ℕ → ℕ → Lexeme → Option Home

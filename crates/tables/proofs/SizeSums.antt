@@ -1,7 +1,7 @@
 -- Sums of sizes as a loop makes them: from left to right, and given up once they are too large.
-use Rattle.std.proofs.Common.{◌≡◌, ℕ, ◌+◌, ◌-◌, ◌<◌, ◌≤◌, Bool, true, false, ltb, leb, sym, refl, ap, ◌∙◌, arith, leb→le}
+use Rattle.std.proofs.Common.{◌≡◌, ℕ, ◌+◌, ◌-◌, ◌<◌, ◌≤◌, Bool, true, false, ltb, leb, max, sym, refl, ap, ◌∙◌, arith, leb→le, ltb→lt}
 use mathlib.Core.Option.{Option, some, none}
-use lib.Dec.{nleb→lt}
+use lib.Dec.{nleb→lt, nltb→le}
 use Rattle.language.specs.Base.{choose, if_some, only_if}
 use Rattle.language.specs.Syntax.{Ty, Ctor}
 use Rattle.tables.specs.Index.{each_from}
@@ -11,6 +11,13 @@ use Rattle.tables.proofs.SizeFuel.{none_some, if_inv, is_T, is_not_T, larger_le,
 
 abbrev pub max_of : ℕ → ℕ → ℕ
 max_of a b = choose (ltb a b) b a
+
+pub max_is : (a b : ℕ) → max a b ≡ max_of a b
+max_is a b = at (ltb a b) refl
+  where
+    at : (c : Bool) → ltb a b ≡ c → max a b ≡ choose c b a
+    at true e = let h = ltb→lt a b (is_T e) in omega arith
+    at false e = let h = nltb→le a b (is_not_T e) in omega arith
 
 pub cap_big : (n : ℕ) → 4096 < n → cap n ≡ none
 cap_big n h = at (leb n 4096) refl
