@@ -12,7 +12,7 @@ use Rattle.tables.specs.Rows.{declared_row, end_before}
 use Rattle.tables.specs.Heads.{Sig, names_of_sigs}
 use Rattle.tables.specs.Sizes.{Fixed}
 use Rattle.tables.specs.Known.{known, sizes_in}
-use Rattle.tables.specs.Rest.{ok_drop, ok_decl}
+use Rattle.tables.specs.Rest.{ok_drop, ok_decl, ok_main, ok_rest}
 use Rattle.tables.specs.Tables.{datas_in, sigs_in, the_data, the_ctor, the_sig}
 use Rattle.tables.specs.Asked.{decl_at, decls_in}
 use Rattle.tables.proofs.SizeFuel.{is_true, is_T}
@@ -126,3 +126,11 @@ each_is t ws i (suc n) l h fx = ap₂ ◌&&◌ (decl_is t ws i (omega arith) h f
 
 pub decls_are : (t : Tables) (ws : List ℕ) → no_twice (names_of_datas (datas_in t)) ≡ true → Fixed (datas_in t) (sizes_in t ws) → each_of (ok_decl (datas_in t) (sigs_in t)) (datas_in t) ≡ decls_in t ws
 decls_are t ws h fx = each_is t ws 0 t.done.datas (omega arith) h fx
+
+-- what is asked besides bodies, by rows and numbers
+swap : (a a' b b' c c' x y m : Bool) → a ≡ a' → b ≡ b' → c ≡ c' → (a ≡ true → x ≡ y) → (a && (b && (c && (x && m)))) ≡ (a' && (b' && (c' && (y && m))))
+swap true a' b b' c c' x y m p q r h = ap₂ ◌&&◌ p (ap₂ ◌&&◌ q (ap₂ ◌&&◌ r (ap (λ z. z && m) (h refl))))
+swap false a' b b' c c' x y m p q r h = ap (λ z. z && (b' && (c' && (y && m)))) p
+
+pub rest_is : (t : Tables) (ws : List ℕ) (s u v : Span) → s ≡ span 0 t.done.datas → u ≡ span 0 t.done.ctors.first → v ≡ span 0 t.done.fns → Fixed (datas_in t) (sizes_in t ws) → ok_rest (datas_in t) (sigs_in t) ≡ (no_twice (all_in (λ k. (the_data t k).name) s) && (no_twice (all_in (λ k. (the_ctor t k).name) u) && (no_twice (all_in (λ k. (the_sig t k).name) v) && (decls_in t ws && ok_main (sigs_in t)))))
+rest_is t ws s u v e f g fx = swap _ _ _ _ _ _ _ _ _ (datas_once t s e) (ctors_once t u f) (sigs_once t v g) (λ h. decls_are t ws h fx)

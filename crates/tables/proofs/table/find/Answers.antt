@@ -2,11 +2,10 @@ use Rattle.std.proofs.Common.{ℕ, Bool, refl, rules}
 use Rattle.std.proofs.lemmas.Iterator.{YieldsList-from_range}
 use Rattle.std.proofs.lemmas.Iterator.Search.{find_from_yields_List}
 use Rattle.tables.specs.Index.{is_spelled}
-use Rattle.tables.proofs.Search.{found, found_under}
+use Rattle.tables.proofs.Search.{found}
 use Rattle.tables.proofs.table.find.Goals as goal
 
-pub returns : goal.returns
-returns g c =
+pub returns-clause-is : goal.returns-clause-is
+returns-clause-is g c =
     let p : ℕ → Bool = is_spelled c.args.text.now g.R.Row.title (g.R.Record.kept c.args.words.now) (g.K.Key.spelled c.args.text.now c.args.key) in
-    let h = found p c.args.rows _ (find_from_yields_List p _ _ c.find.result c.find.ensures.ran (YieldsList-from_range _ _ _ refl refl) (λ x b q k. search rules)) in
-    record { is = h; within = found_under p c.args.rows _ h }
+    found p c.args.rows _ (find_from_yields_List p _ _ c.find.result c.find.ensures.ran (YieldsList-from_range _ _ _ refl refl) (λ x b q k. search rules))

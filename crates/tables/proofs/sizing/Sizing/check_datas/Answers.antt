@@ -2,7 +2,7 @@ use Rattle.std.proofs.Common.{◌≡◌, ℕ, ◌-◌, refl, ap, arith}
 use Rattle.language.specs.Base.{each_of}
 use Rattle.tables.specs.Index.{each_from}
 use Rattle.tables.specs.Asked.{decl_at}
-use Rattle.tables.proofs.EachOf.{all_no, all_on, all_end}
+use Rattle.tables.proofs.EachOf.{all_no, all_on}
 use Rattle.tables.proofs.Faults.{failed}
 use Rattle.tables.proofs.sizing.Sizing.check_datas.Goals as goal
 
@@ -17,6 +17,3 @@ returns-in_err-check_data c = rw (failed c.from_residual.result c.from_residual.
 
 pub loop-number-preserved : goal.loop-number-preserved
 loop-number-preserved c = (c.loop-number.invariant.0, all_on (decl_at c.args.self.tables c.args.self.sizes.now) (λ (k : ℕ). k) c.loop-number.number _ _ c.loop-number-test.true c.in_ok-check_data.ensures c.loop-number.invariant.1)
-
-pub returns : goal.returns
-returns c = all_end (decl_at c.args.self.tables c.args.self.sizes.now) (λ (k : ℕ). k) c.loop-number.number _ _ c.loop-number-test.false c.loop-number.invariant.1

@@ -2,7 +2,7 @@ use Rattle.std.proofs.Common.{◌≡◌, ◌-◌, refl, ap, arith}
 use Rattle.language.specs.Checks.{home_of}
 use Rattle.tables.specs.Index.{each_from}
 use Rattle.tables.specs.Tables.{the_data, spelled}
-use Rattle.tables.proofs.Look.{home_hit, home_miss, home_end}
+use Rattle.tables.proofs.Look.{home_hit, home_miss}
 use Rattle.tables.proofs.tables.Tables.find_owner.Goals as goal
 
 pub loop-number-init : goal.loop-number-init
@@ -16,6 +16,3 @@ returns-in-Some c = (home_hit (the_data c.args.self) c.loop-number.number _ _ _ 
 
 pub loop-number-preserved : goal.loop-number-preserved
 loop-number-preserved c = (c.loop-number.invariant.0, home_miss (the_data c.args.self) c.loop-number.number _ _ _ c.loop-number-test.true c.in_default.ensures c.loop-number.invariant.1)
-
-pub returns : goal.returns
-returns c = home_end (the_data c.args.self) c.loop-number.number _ _ _ c.loop-number-test.false c.loop-number.invariant.1
