@@ -1,7 +1,6 @@
 pub mod Index
 pub mod Look
 pub mod Search
-pub mod RowWords
 pub mod Frame
 pub mod Declares
 pub mod Noted

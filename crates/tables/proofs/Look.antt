@@ -1,5 +1,5 @@
 -- Looking a name up among what stands at the numbers of a range.
-use Rattle.std.proofs.Common.{◌≡◌, ℕ, zero, suc, ◌+◌, ◌-◌, ◌<◌, ◌≤◌, Bool, true, false, sym, refl, ap, ◌∙◌, arith}
+use Rattle.std.proofs.Common.{◌≡◌, ℕ, zero, suc, ◌+◌, ◌-◌, ◌<◌, Bool, true, false, sym, refl, ap, ◌∙◌}
 use mathlib.Core.Option.{Option, some, none}
 use Rattle.language.specs.Base.{choose, from_option, if_some, Lexeme, same}
 use Rattle.language.specs.Syntax.{Ctor, Data}
@@ -55,6 +55,3 @@ home_hit f i n c k z h e q = sym q ∙ home_step f i n c h ∙ ap (λ o. from_op
 
 pub home_miss : (f : ℕ → Data) (i n : ℕ) (c : Lexeme) (z : Option Home) → i < n → ctor_named (f i).ctors c ≡ none → homes_from f i n c ≡ z → homes_from f (i + 1) n c ≡ z
 home_miss f i n c z h e q = sym (home_step f i n c h ∙ ap (λ o. from_option o (homes_from f (i + 1) n c) (λ k. some (record { data1 = f i; ctor1 = k }))) e) ∙ q
-
-pub home_end : (f : ℕ → Data) (i n : ℕ) (c : Lexeme) (z : Option Home) → n ≤ i → homes_from f i n c ≡ z → z ≡ none
-home_end f i n c z h q = let e : n - i ≡ 0 = omega arith in sym q ∙ ap (λ m. home_of (each_from f i m) c) e

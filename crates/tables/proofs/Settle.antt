@@ -115,9 +115,6 @@ pub record Settling (t : Tables) (ws vs : List ℕ) (d : ℕ) (more : Bool) : Ty
   pub fewer : unknowns vs t.done.datas + choose more 1 0 ≤ unknowns ws t.done.datas
   pub stuck : more ≡ false → (vs ≡ ws) × Stuck t ws d
 
-pub settling_none : (t : Tables) (ws : List ℕ) → Settling t ws ws 0 false
-settling_none t ws = record { sound = λ h. h; fewer = omega arith; stuck = λ e. (refl, λ k l. absurd (omega arith)) }
-
 pub settling_put : (t : Tables) (ws vs us : List ℕ) (d : ℕ) (more : Bool) → d < t.done.datas → d < length vs → Settles t d vs us true → Settling t ws vs d more → Settling t ws us (d + 1) true
 settling_put t ws vs us d more l r h g =
     let k = h.0 in

@@ -37,6 +37,7 @@ impl<'a> Tables<'a> {
     pub fn find_owner(self, name: Name) -> Option<Owner<'a>>
         ensures { FindsHome self.entry (spelled self.entry name) result }
     {
+        // A `for`, since a closure of `find_map` that makes a reference would need clauses of its own.
         for number in 0..self.done.datas {
             let of = DataRef {
                 tables: self,

@@ -14,6 +14,7 @@ pub fn twice<R: Row>(text: &[u8], words: &[u64], rows: Span) -> Option<usize>
     requires { rows.end * R.width ≤ length words.now }
     ensures { MatchOption result (no_twice (all_in (λ k. spelling text.now (R.title (R.kept words.now k))) rows) ≡ true) (λ k. (no_twice (all_in (λ k. spelling text.now (R.title (R.kept words.now k))) rows) ≡ false) × (k < rows.end)) }
 {
+    // A `for`, since a closure of `find_map` would need clauses of its own, for the row and for the rest.
     for i in rows.first..rows.end {
         let rest = Span {
             first: i + 1,

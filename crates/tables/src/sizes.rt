@@ -8,7 +8,8 @@ use crate::refs::DataRef;
 use crate::sizing::Sizing;
 use crate::tables::Tables;
 
-// Puts the size of a data type into the table, if it isn't known and can be told from those that are.
+// Puts the size of a data type into the table, if it isn't known and can be told from those that are. The words come beside the tables
+// here and below: each method of a struct of both would have to promise that its tables stay.
 fn settle(data: DataRef, sizes: &mut [u64]) -> bool
     requires { data.tables.done.datas ≤ length sizes.old }
     ensures { Settles data.entry.tables data.entry.number sizes.old sizes.new result }

@@ -6,7 +6,8 @@ use crate::key::Key;
 use crate::row::Row;
 use crate::span::Span;
 
-// The number of the first row that has the name looked for, among those of a span.
+// The number of the first row that has the name looked for, among those of a span. Text, words and span come as three, here and in
+// `twice` and `once`: a struct of them would have to be written out, of six lines, at each of the seven calls.
 pub fn find<R: Row, K: Key>(text: &[u8], words: &[u64], rows: Span, key: K) -> Option<usize>
     requires { rows.end * R.width ≤ length words.now }
     ensures is { MatchOption result (first_in (is_spelled text.now R.title (R.kept words.now) (K.spelled text.now key)) rows ≡ Nothing) (λ k. first_in (is_spelled text.now R.title (R.kept words.now) (K.spelled text.now key)) rows ≡ Just k) }
