@@ -58,8 +58,8 @@ data_of d = the_data d.tables d.number
 abbrev pub ctor_of : CtorRef → Ctor
 ctor_of c = the_ctor c.tables c.number
 
-abbrev pub sig_of : FnRef → Sig
-sig_of f = the_sig f.tables f.number
+abbrev pub head_of : FnRef → Sig
+head_of f = the_sig f.tables f.number
 
 abbrev pub entry_of : FnRef → Entry
 entry_of f = the_entry f.tables f.number
@@ -103,4 +103,4 @@ FindsHome t w (Some h) = (home_of (datas_in t) w ≡ some (record { data1 = data
 
 abbrev pub FindsFn : Tables → Lexeme → Option FnRef → Type 0
 FindsFn t w None = sig_named (sigs_in t) w ≡ none
-FindsFn t w (Some f) = (sig_named (sigs_in t) w ≡ some (sig_of f)) × (f.tables ≡ t)
+FindsFn t w (Some f) = (sig_named (sigs_in t) w ≡ some (head_of f)) × (f.tables ≡ t)

@@ -2,7 +2,7 @@ ghost use Rattle.std.specs.Prelude.{◌≡◌, ◌<◌, ◌≤◌};
 ghost use Rattle.types.specs.declared.ty.Outer.TheVariants.{Plain};
 ghost use Rattle.tables.specs.Index.{all_in};
 ghost use Rattle.tables.specs.Known.{the_field};
-ghost use Rattle.tables.specs.Tables.{code_from, the_ctor, the_param, type_in, spelled, data_of, ctor_of, sig_of, entry_of};
+ghost use Rattle.tables.specs.Tables.{code_from, the_ctor, the_param, type_in, spelled, data_of, ctor_of, head_of, entry_of};
 
 use crate::refs::{CtorRef, DataRef, FnRef};
 use crate::rows::{Declared, Parameter};
@@ -44,7 +44,7 @@ impl CtorRef<'_> {
 
 impl FnRef<'_> {
     pub fn params(self) -> Span
-        ensures is { (sig_of self.entry).params ≡ all_in (the_param self.entry.tables) result }
+        ensures is { (head_of self.entry).params ≡ all_in (the_param self.entry.tables) result }
         ensures within { result.end ≤ self.entry.tables.done.params.end }
     {
         Declared::load(self.tables.fns, self.number).parts
@@ -52,7 +52,7 @@ impl FnRef<'_> {
 
     // The type of what it gives.
     pub fn gives(self) -> ValueType
-        ensures is { type_in self.entry.tables result ≡ (sig_of self.entry).ret }
+        ensures is { type_in self.entry.tables result ≡ (head_of self.entry).ret }
         ensures plain { result.outer ≡ Plain }
         ensures boxes { result.boxes ≡ 0 }
     {

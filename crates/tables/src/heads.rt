@@ -4,7 +4,7 @@ ghost use Rattle.language.specs.Checks.{same_ty, is_last, types_of_pars};
 ghost use Rattle.code.specs.Means.{means, optional};
 ghost use Rattle.tables.specs.Declares.{last_of};
 ghost use Rattle.tables.specs.Rest.{ok_drop, ok_main};
-ghost use Rattle.tables.specs.Tables.{sigs_in, data_of, sig_of, spelled, type_in};
+ghost use Rattle.tables.specs.Tables.{sigs_in, data_of, head_of, spelled, type_in};
 
 use crate::refs::{DataRef, FnRef};
 use crate::rows::Declared;
@@ -59,7 +59,7 @@ impl Tables<'_> {
 impl FnRef<'_> {
     // Whether it may be the last of the data type of that name: it takes one, lent, and gives an int.
     fn is_last(self, of: Name) -> bool
-        ensures { result ≡ is_last (spelled self.entry.tables of) (types_of_pars (sig_of self.entry).params) (sig_of self.entry).ret }
+        ensures { result ≡ is_last (spelled self.entry.tables of) (types_of_pars (head_of self.entry).params) (head_of self.entry).ret }
     {
         let tables = self.tables;
         let params = self.params();
@@ -71,7 +71,7 @@ impl FnRef<'_> {
 
     // Whether it takes nothing and gives an int.
     fn is_main(self) -> bool
-        ensures { result ≡ (length (sig_of self.entry).params == 0 && same_ty (sig_of self.entry).ret int) }
+        ensures { result ≡ (length (head_of self.entry).params == 0 && same_ty (head_of self.entry).ret int) }
     {
         self.params().count() == 0 && self.tables.is_int(self.gives())
     }
