@@ -7,12 +7,10 @@ use Rattle.std.specs.Option.{option_to_list}
 use Rattle.std.proofs.lemmas.List.{map-append}
 use Rattle.code.specs.Words.{instr_at, instrs_in, code_in}
 use Rattle.code.specs.declared.instr.Instr.TheVariants.{Num, Var, Int, Op, Make, Call, Arg, Apply, Box, Share, Lend, Load, Get, Bind, Assign, Store, Put, If, Else, EndIf, While, Do, EndWhile, Match, Arm, Part, Body, EndArm, EndMatch, Open, Inside, Give, EndFn, TyInt, TyData, TyBox, TyRef, TyMut, Field, Ctor, Data, Param, Fn}
-use Rattle.types.specs.declared.role.Role.TheVariants.{Passes}
 use Rattle.types.specs.Types.{role_of, role_in, after, written}
 use Rattle.language.specs.Base.{choose}
 use Rattle.language.specs.Syntax.{Ty}
 use Rattle.tables.proofs.SizeFuel.{is_true}
-use Rattle.tables.specs.Index.{span}
 use Rattle.tables.specs.Collect.{with_ty, collect, tables_of}
 use Rattle.tables.specs.View.{Words, tables_in, Within}
 use Rattle.tables.specs.Declares.{ty_after, Stands, Noted, NotedSlot, used}
@@ -69,7 +67,7 @@ written_step : (text code : List ℕ) (k : ℕ) (o : Option Instr) → (k + 1) *
 written_step text code k o h e =
     let s : k + 1 ≡ suc k = omega arith in
     let l : k < length code / 3 = omega arith in
-    ap (written text code) s ∙ ap (λ (b : Bool). after text (choose b (role_in (instr_at code k)) Passes) (written text code k)) (is_true _ (lt→ltb k (length code / 3) l)) ∙ ap (λ (o : Option Instr). after text (role_in o) (written text code k)) e
+    ap (written text code) s ∙ ap (λ (b : Bool). after text (choose b (role_in (instr_at code k)) None) (written text code k)) (is_true _ (lt→ltb k (length code / 3) l)) ∙ ap (λ (o : Option Instr). after text (role_in o) (written text code k)) e
 
 stands : (text code : List ℕ) (n k : ℕ) (i : Instr) → (k + 1) * 3 ≤ length code → instr_at code k ≡ Some i → Stands (source text code n) k (means text i)
 stands text code n k i l h = record { ty = written_step text code k (Some i) l h ∙ role_ty text i (written text code k); last = ap (last_in text) h }
@@ -116,34 +114,6 @@ pub record Noting (code : List ℕ) (n i : ℕ) (w : Words) (p : Progress) : Typ
   pub within : Within w p n
   pub rows : used p + rows_in code i (n - i) ≡ rows_in code 0 n
   pub fields : p.fields.end ≤ i
-
-abbrev pub start : Progress
-start = record { datas = 0; fns = 0; ctors = span 0 0; fields = span 0 0; params = span 0 0 }
-
-pub begins : (code : List ℕ) (n : ℕ) (w : Words) → Noting code n 0 w start
-begins code n w = record {
-  tables = λ text. ap (λ m. tables_of (instrs_from text code 0 m)) z;
-  within = record {
-    datas = λ k l. absurd (omega arith);
-    ctors = λ k l. absurd (omega arith);
-    fns = λ k l. absurd (omega arith);
-    ctors_open = omega arith;
-    fields_open = omega arith;
-    params_open = omega arith;
-    joined = λ k l. absurd (omega arith);
-    ordered = λ k l. absurd (omega arith);
-    next = refl;
-    datas_at = λ k l. absurd (omega arith);
-    fields_at = λ k l. absurd (omega arith);
-    fns_at = λ k l. absurd (omega arith);
-    params_at = λ k l. absurd (omega arith);
-  };
-  rows = ap (λ m. 0 + rows_in code 0 m) z ∙ omega arith;
-  fields = omega arith;
-}
-  where
-    z : n - 0 ≡ n
-    z = omega arith
 
 goes_on : (code : List ℕ) (n i : ℕ) (w v : Words) (p q : Progress) (it : Instr) → n * 3 ≤ length code → i < n → instr_at code i ≡ Some it → Noted it i w p v q → Noting code n i w p → Noting code n (i + 1) v q
 goes_on code n i w v p q it b l e h g = record {

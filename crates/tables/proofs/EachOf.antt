@@ -1,5 +1,5 @@
 -- A test of each row of a range, one after the other.
-use Rattle.std.proofs.Common.{◌≡◌, ℕ, zero, suc, ◌+◌, ◌-◌, ◌<◌, ◌≤◌, Bool, true, false, ◌&&◌, eqb, leb, length, sym, refl, ap, ◌∙◌, arith, le→leb, eqb→eq, leb→le}
+use Rattle.std.proofs.Common.{◌≡◌, ℕ, zero, suc, ◌+◌, ◌-◌, ◌<◌, ◌≤◌, Bool, true, false, ◌&&◌, leb, length, sym, refl, ap, ◌∙◌, arith, le→leb, leb→le}
 use Rattle.language.specs.Base.{each_of}
 use Rattle.tables.specs.declared.span.Span.{Span}
 use Rattle.tables.specs.Index.{each_from, all_in}
@@ -18,9 +18,6 @@ all_no p f i n z h e q = sym q ∙ all_step p f i n h ∙ ap (λ b. b && all_fro
 pub all_on : {A : Type 0} (p : A → Bool) (f : ℕ → A) (i n : ℕ) (z : Bool) → i < n → p (f i) ≡ true → all_from p f i n ≡ z → all_from p f (i + 1) n ≡ z
 all_on p f i n z h e q = sym (all_step p f i n h ∙ ap (λ b. b && all_from p f (i + 1) n) e) ∙ q
 
-pub all_end : {A : Type 0} (p : A → Bool) (f : ℕ → A) (i n : ℕ) (z : Bool) → n ≤ i → all_from p f i n ≡ z → z ≡ true
-all_end p f i n z h q = let e : n - i ≡ 0 = omega arith in sym q ∙ ap (λ m. each_of p (each_from f i m)) e
-
 pub each_long : {A : Type 0} (f : ℕ → A) (i n : ℕ) → length (each_from f i n) ≡ n
 each_long f i zero = refl
 each_long f i (suc n) = let e = each_long f (suc i) n in omega arith
@@ -32,20 +29,12 @@ all_long f s = each_long f s.first (s.end - s.first)
 pub few_yes : {A : Type 0} (f : ℕ → A) (s : Span) (b : Bool) → s.end - s.first ≤ 8 → (leb (length (all_in f s)) 8 && b) ≡ b
 few_yes f s b h = ap (λ n. leb n 8 && b) (all_long f s) ∙ ap (λ c. c && b) (is_true (leb (s.end - s.first) 8) (le→leb (s.end - s.first) 8 h))
 
+pub not_few : (n : ℕ) → 8 < n → leb n 8 ≡ false
+not_few n h = at (leb n 8) refl
+  where
+    at : (c : Bool) → leb n 8 ≡ c → c ≡ false
+    at true e = let k = leb→le n 8 (is_T e) in absurd (omega arith)
+    at false e = refl
+
 pub few_no : {A : Type 0} (f : ℕ → A) (s : Span) (b : Bool) → 8 < s.end - s.first → (leb (length (all_in f s)) 8 && b) ≡ false
-few_no f s b h = ap (λ n. leb n 8 && b) (all_long f s) ∙ ap (λ c. c && b) (at (leb (s.end - s.first) 8) refl)
-  where
-    at : (c : Bool) → leb (s.end - s.first) 8 ≡ c → c ≡ false
-    at true e = let k = leb→le (s.end - s.first) 8 (is_T e) in absurd (omega arith)
-    at false e = refl
-
--- none, and what else is asked
-pub none_yes : {A : Type 0} (f : ℕ → A) (s : Span) (b : Bool) → s.end - s.first ≡ 0 → (eqb (length (all_in f s)) 0 && b) ≡ b
-none_yes f s b h = ap (λ n. eqb n 0 && b) (all_long f s ∙ h)
-
-pub none_no : {A : Type 0} (f : ℕ → A) (s : Span) (b : Bool) → (s.end - s.first ≡ 0 → ⊥) → (eqb (length (all_in f s)) 0 && b) ≡ false
-none_no f s b h = ap (λ n. eqb n 0 && b) (all_long f s) ∙ ap (λ c. c && b) (at (eqb (s.end - s.first) 0) refl)
-  where
-    at : (c : Bool) → eqb (s.end - s.first) 0 ≡ c → c ≡ false
-    at true e = absurd (h (eqb→eq (s.end - s.first) 0 (is_T e)))
-    at false e = refl
+few_no f s b h = ap (λ n. leb n 8 && b) (all_long f s) ∙ ap (λ c. c && b) (not_few (s.end - s.first) h)

@@ -1,26 +1,10 @@
 -- Laws of lists over a range of numbers, and of the first number of a range that passes a test.
 use Rattle.std.proofs.Common.{◌≡◌, ℕ, zero, suc, ◌+◌, ◌-◌, ◌<◌, ◌≤◌, Bool, true, false, [], ◌∷◌, ◌++◌, sym, refl, ap, ◌∙◌, ap₂, arith}
-use mathlib.Core.Option.{Option, some, none}
+use mathlib.Core.Option.{some}
 use Rattle.language.specs.Base.{choose}
 use Rattle.tables.specs.declared.span.Span.{Span}
 use Rattle.tables.proofs.SizeFuel.{some_same, none_some}
 use Rattle.tables.specs.Index.{span, each_from, first_from, all_in, first_in}
-
--- one turn of a loop over a range
-pub first_step : (p : ℕ → Bool) (i n : ℕ) → i < n → first_from p i (n - i) ≡ choose (p i) (some i) (first_from p (i + 1) (n - (i + 1)))
-first_step p i n h =
-    let e : n - i ≡ suc (n - (i + 1)) = omega arith in
-    let f : suc i ≡ i + 1 = omega arith in
-    ap (first_from p i) e ∙ ap (λ j. choose (p i) (some i) (first_from p j (n - (i + 1)))) f
-
-pub first_hit : (p : ℕ → Bool) (i n : ℕ) (z : Option ℕ) → i < n → p i ≡ true → first_from p i (n - i) ≡ z → z ≡ some i
-first_hit p i n z h e q = sym q ∙ first_step p i n h ∙ ap (λ b. choose b (some i) (first_from p (i + 1) (n - (i + 1)))) e
-
-pub first_miss : (p : ℕ → Bool) (i n : ℕ) (z : Option ℕ) → i < n → p i ≡ false → first_from p i (n - i) ≡ z → first_from p (i + 1) (n - (i + 1)) ≡ z
-first_miss p i n z h e q = sym (first_step p i n h ∙ ap (λ b. choose b (some i) (first_from p (i + 1) (n - (i + 1)))) e) ∙ q
-
-pub first_end : (p : ℕ → Bool) (i n : ℕ) (z : Option ℕ) → n ≤ i → first_from p i (n - i) ≡ z → z ≡ none
-first_end p i n z h q = let e : n - i ≡ 0 = omega arith in sym q ∙ ap (first_from p i) e
 
 -- the same at each number is the same list; a list with one more
 pub each_same : {A : Type 0} (f g : ℕ → A) (i n : ℕ) → ((k : ℕ) → i ≤ k → k < i + n → f k ≡ g k) → each_from f i n ≡ each_from g i n
@@ -65,5 +49,5 @@ first_inside p i (suc n) k e = at (p i) refl e (λ h. first_inside p (suc i) n k
 pub first_under : (p : ℕ → Bool) (s : Span) (k : ℕ) → first_in p s ≡ some k → k < s.end
 first_under p s k e = let r = first_inside p s.first (s.end - s.first) k e in let a = r.0 in let b = r.1 in omega arith
 
-pub from_zero : (p : ℕ → Bool) (n : ℕ) → first_in p (span 0 n) ≡ first_from p 0 n
-from_zero p n = let e : n - 0 ≡ n = omega arith in ap (first_from p 0) e
+pub from_zero : (p : ℕ → Bool) (n : ℕ) (s : Span) → s ≡ span 0 n → first_in p s ≡ first_from p 0 n
+from_zero p n s h = let e : n - 0 ≡ n = omega arith in ap (first_in p) h ∙ ap (first_from p 0) e

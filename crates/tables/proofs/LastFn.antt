@@ -1,12 +1,9 @@
 -- A last function has one parameter.
-use Rattle.std.proofs.Common.{◌≡◌, ℕ, zero, suc, false, ◌&&◌, refl, ap}
+use Rattle.std.proofs.Common.{◌≡◌, ℕ, zero, suc, false, refl}
 use Rattle.language.specs.Base.{Lexeme}
-use Rattle.language.specs.Syntax.{Ty, int, dat, mut, Param}
-use Rattle.language.specs.Checks.{same_ty, types_of_pars, is_last}
+use Rattle.language.specs.Syntax.{Ty, Param}
+use Rattle.language.specs.Checks.{types_of_pars, is_last}
 use Rattle.tables.specs.Index.{each_from}
-
-pub last_one : (f : ℕ → Param) (d : Lexeme) (r : Ty) (i n : ℕ) → n ≡ 1 → is_last d (types_of_pars (each_from f i n)) r ≡ (same_ty (f i).ty (mut (dat d)) && same_ty r int)
-last_one f d r i n e = ap (λ m. is_last d (types_of_pars (each_from f i m)) r) e
 
 pub last_not : (f : ℕ → Param) (d : Lexeme) (r : Ty) (i n : ℕ) → (n ≡ 1 → ⊥) → is_last d (types_of_pars (each_from f i n)) r ≡ false
 last_not f d r i zero h = refl

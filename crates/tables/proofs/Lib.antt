@@ -1,6 +1,6 @@
 pub mod Index
 pub mod Look
-pub mod RowWords
+pub mod Search
 pub mod Frame
 pub mod Declares
 pub mod Noted
@@ -15,3 +15,4 @@ pub mod Once
 pub mod EachOf
 pub mod LastFn
 pub mod RestNames
+pub mod Faults

@@ -1,5 +1,5 @@
 -- Looking a name up among what stands at the numbers of a range.
-use Rattle.std.proofs.Common.{◌≡◌, ℕ, zero, suc, ◌+◌, ◌-◌, ◌<◌, ◌≤◌, Bool, true, false, sym, refl, ap, ◌∙◌, arith}
+use Rattle.std.proofs.Common.{◌≡◌, ℕ, zero, suc, ◌+◌, ◌-◌, ◌<◌, Bool, true, false, sym, refl, ap, ◌∙◌}
 use mathlib.Core.Option.{Option, some, none}
 use Rattle.language.specs.Base.{choose, from_option, if_some, Lexeme, same}
 use Rattle.language.specs.Syntax.{Ctor, Data}
@@ -34,14 +34,14 @@ sig_first f w i (suc n) = at (same (f i).name w) (sig_first f w (suc i) n)
     at true h = refl
     at false h = h
 
-pub data_is : (f : ℕ → Data) (w : Lexeme) (n : ℕ) (o : Option ℕ) → first_in (λ k. same (f k).name w) (span 0 n) ≡ o → data_named (each_from f 0 n) w ≡ if_some o (λ k. some (f k))
-data_is f w n o e = data_first f w 0 n ∙ ap (λ o. if_some o (λ k. some (f k))) (sym (from_zero _ n) ∙ e)
+pub data_is : (f : ℕ → Data) (w : Lexeme) (n : ℕ) (s : Span) (o : Option ℕ) → s ≡ span 0 n → first_in (λ k. same (f k).name w) s ≡ o → data_named (each_from f 0 n) w ≡ if_some o (λ k. some (f k))
+data_is f w n s o h e = data_first f w 0 n ∙ ap (λ o. if_some o (λ k. some (f k))) (sym (from_zero _ n s h) ∙ e)
 
 pub ctor_is : (f : ℕ → Ctor) (w : Lexeme) (s : Span) (o : Option ℕ) → first_in (λ k. same (f k).name w) s ≡ o → ctor_named (all_in f s) w ≡ if_some o (λ k. some (f k))
 ctor_is f w s o e = ctor_first f w s.first (s.end - s.first) ∙ ap (λ o. if_some o (λ k. some (f k))) e
 
-pub sig_is : (f : ℕ → Sig) (w : Lexeme) (n : ℕ) (o : Option ℕ) → first_in (λ k. same (f k).name w) (span 0 n) ≡ o → sig_named (each_from f 0 n) w ≡ if_some o (λ k. some (f k))
-sig_is f w n o e = sig_first f w 0 n ∙ ap (λ o. if_some o (λ k. some (f k))) (sym (from_zero _ n) ∙ e)
+pub sig_is : (f : ℕ → Sig) (w : Lexeme) (n : ℕ) (s : Span) (o : Option ℕ) → s ≡ span 0 n → first_in (λ k. same (f k).name w) s ≡ o → sig_named (each_from f 0 n) w ≡ if_some o (λ k. some (f k))
+sig_is f w n s o h e = sig_first f w 0 n ∙ ap (λ o. if_some o (λ k. some (f k))) (sym (from_zero _ n s h) ∙ e)
 
 -- a turn of the loop over data that looks for a constructor
 abbrev pub homes_from : (ℕ → Data) → ℕ → ℕ → Lexeme → Option Home
@@ -55,6 +55,3 @@ home_hit f i n c k z h e q = sym q ∙ home_step f i n c h ∙ ap (λ o. from_op
 
 pub home_miss : (f : ℕ → Data) (i n : ℕ) (c : Lexeme) (z : Option Home) → i < n → ctor_named (f i).ctors c ≡ none → homes_from f i n c ≡ z → homes_from f (i + 1) n c ≡ z
 home_miss f i n c z h e q = sym (home_step f i n c h ∙ ap (λ o. from_option o (homes_from f (i + 1) n c) (λ k. some (record { data1 = f i; ctor1 = k }))) e) ∙ q
-
-pub home_end : (f : ℕ → Data) (i n : ℕ) (c : Lexeme) (z : Option Home) → n ≤ i → homes_from f i n c ≡ z → z ≡ none
-home_end f i n c z h q = let e : n - i ≡ 0 = omega arith in sym q ∙ ap (λ m. home_of (each_from f i m) c) e

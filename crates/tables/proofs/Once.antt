@@ -1,5 +1,5 @@
 -- No name twice, over the rows of a table.
-use Rattle.std.proofs.Common.{◌≡◌, ℕ, zero, suc, ◌+◌, ◌-◌, ◌<◌, ◌≤◌, Bool, true, false, not, ◌&&◌, ◌||◌, eqb, [], ◌∷◌, sym, refl, ap, ◌∙◌, ap₂, arith, eqb→eq}
+use Rattle.std.proofs.Common.{◌≡◌, ℕ, zero, suc, ◌+◌, ◌-◌, ◌<◌, Bool, true, false, not, ◌&&◌, ◌||◌, eqb, [], ◌∷◌, sym, refl, ap, ◌∙◌, ap₂, eqb→eq}
 use mathlib.Core.Option.{Option, some, none}
 use lib.Dec.{eqb_refl}
 use Rattle.language.specs.Base.{choose, present, Lexeme, same, is_in, no_twice}
@@ -42,6 +42,3 @@ once_no f i n k z h e q = sym q ∙ once_step f i n h ∙ ap (λ (o : Option ℕ
 
 pub once_on : (f : ℕ → Lexeme) (i n : ℕ) (z : Bool) → i < n → first_from (λ k. same (f k) (f i)) (i + 1) (n - (i + 1)) ≡ none → once_from f i n ≡ z → once_from f (i + 1) n ≡ z
 once_on f i n z h e q = sym (once_step f i n h ∙ ap (λ (o : Option ℕ). not (present o) && once_from f (i + 1) n) e) ∙ q
-
-pub once_end : (f : ℕ → Lexeme) (i n : ℕ) (z : Bool) → n ≤ i → once_from f i n ≡ z → z ≡ true
-once_end f i n z h q = let e : n - i ≡ 0 = omega arith in sym q ∙ ap (λ m. no_twice (each_from f i m)) e

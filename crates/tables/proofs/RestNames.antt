@@ -6,19 +6,20 @@ use Rattle.language.specs.Base.{choose, if_some, present, each_of, Lexeme, same,
 use Rattle.language.specs.Syntax.{Ctor, Data}
 use Rattle.language.specs.Checks.{names_of_ctors, names_of_datas, every_ctor_name, ok_ctor}
 use Rattle.tables.specs.declared.tables.Tables.{Tables}
+use Rattle.tables.specs.declared.span.Span.{Span}
 use Rattle.tables.specs.Index.{span, each_from, first_from, all_in}
 use Rattle.tables.specs.Rows.{declared_row, end_before}
 use Rattle.tables.specs.Heads.{Sig, names_of_sigs}
 use Rattle.tables.specs.Sizes.{Fixed}
 use Rattle.tables.specs.Known.{known, sizes_in}
-use Rattle.tables.specs.Rest.{ok_drop, ok_decl}
+use Rattle.tables.specs.Rest.{ok_drop, ok_decl, ok_main, ok_rest}
 use Rattle.tables.specs.Tables.{datas_in, sigs_in, the_data, the_ctor, the_sig}
 use Rattle.tables.specs.Asked.{decl_at, decls_in}
 use Rattle.tables.proofs.SizeFuel.{is_true, is_T}
 use Rattle.tables.proofs.SizesOk.{size_is}
 
-from_start : {A : Type 0} (f : ℕ → A) (n : ℕ) → all_in f (span 0 n) ≡ each_from f 0 n
-from_start f n = let e : n - 0 ≡ n = omega arith in ap (each_from f 0) e
+from_start : {A : Type 0} (f : ℕ → A) (n : ℕ) (s : Span) → s ≡ span 0 n → all_in f s ≡ each_from f 0 n
+from_start f n s h = let e : n - 0 ≡ n = omega arith in ap (all_in f) h ∙ ap (each_from f 0) e
 
 datas_names : (f : ℕ → Data) (i n : ℕ) → names_of_datas (each_from f i n) ≡ each_from (λ k. (f k).name) i n
 datas_names f i zero = refl
@@ -39,11 +40,11 @@ each_append f a (suc n) m =
     let g : suc n + m ≡ suc (n + m) = omega arith in
     ap (λ j. (f a ∷ each_from f (suc a) n) ++ each_from f j m) e ∙ ap (λ xs. f a ∷ xs) (each_append f (suc a) n m) ∙ sym (ap (each_from f a) g)
 
-pub datas_once : (t : Tables) → no_twice (names_of_datas (datas_in t)) ≡ no_twice (all_in (λ k. (the_data t k).name) (span 0 t.done.datas))
-datas_once t = ap no_twice (datas_names (the_data t) 0 t.done.datas ∙ sym (from_start (λ k. (the_data t k).name) t.done.datas))
+pub datas_once : (t : Tables) (s : Span) → s ≡ span 0 t.done.datas → no_twice (names_of_datas (datas_in t)) ≡ no_twice (all_in (λ k. (the_data t k).name) s)
+datas_once t s h = ap no_twice (datas_names (the_data t) 0 t.done.datas ∙ sym (from_start (λ k. (the_data t k).name) t.done.datas s h))
 
-pub sigs_once : (t : Tables) → no_twice (names_of_sigs (sigs_in t)) ≡ no_twice (all_in (λ k. (the_sig t k).name) (span 0 t.done.fns))
-sigs_once t = ap no_twice (sigs_names (the_sig t) 0 t.done.fns ∙ sym (from_start (λ k. (the_sig t k).name) t.done.fns))
+pub sigs_once : (t : Tables) (s : Span) → s ≡ span 0 t.done.fns → no_twice (names_of_sigs (sigs_in t)) ≡ no_twice (all_in (λ k. (the_sig t k).name) s)
+sigs_once t s h = ap no_twice (sigs_names (the_sig t) 0 t.done.fns ∙ sym (from_start (λ k. (the_sig t k).name) t.done.fns s h))
 
 -- constructors stand one behind the other
 ends_grow : (t : Tables) (i n : ℕ) → i + n ≤ t.done.datas → end_before t.datas.now i ≤ end_before t.datas.now (i + n)
@@ -73,10 +74,10 @@ ctor_names_from t i (suc n) h =
     ap₂ (λ xs ys. xs ++ ys) (ctors_names (the_ctor t) (declared_row ws i).parts.first ((declared_row ws i).parts.end - (declared_row ws i).parts.first)) (ctor_names_from t (suc i) n (omega arith) ∙ ap (λ j. each_from nm j (end_before ws (suc i + n) - end_before ws (suc i))) (sym q))
     ∙ each_append nm (declared_row ws i).parts.first _ _ ∙ ap (each_from nm (declared_row ws i).parts.first) m ∙ ap₂ (λ j k. each_from nm j (end_before ws k - j)) p e
 
-pub ctors_once : (t : Tables) → no_twice (every_ctor_name (datas_in t)) ≡ no_twice (all_in (λ k. (the_ctor t k).name) (span 0 t.done.ctors.first))
-ctors_once t =
+pub ctors_once : (t : Tables) (s : Span) → s ≡ span 0 t.done.ctors.first → no_twice (every_ctor_name (datas_in t)) ≡ no_twice (all_in (λ k. (the_ctor t k).name) s)
+ctors_once t s h =
     let z : 0 + t.done.datas ≡ t.done.datas = omega arith in
-    ap no_twice (ctor_names_from t 0 t.done.datas (omega arith) ∙ ap (λ k. each_from (λ k. (the_ctor t k).name) 0 (k - 0)) (ap (end_before t.datas.now) z ∙ sym t.data_end))
+    ap no_twice (ctor_names_from t 0 t.done.datas (omega arith) ∙ ap (λ k. each_from (λ k. (the_ctor t k).name) 0 (k - 0)) (ap (end_before t.datas.now) z ∙ sym t.data_end) ∙ sym (ap (all_in (λ k. (the_ctor t k).name)) h))
 
 -- where no name is twice, each is the first of its name
 same_self : (x : Lexeme) → same x x ≡ true
@@ -126,18 +127,10 @@ each_is t ws i (suc n) l h fx = ap₂ ◌&&◌ (decl_is t ws i (omega arith) h f
 pub decls_are : (t : Tables) (ws : List ℕ) → no_twice (names_of_datas (datas_in t)) ≡ true → Fixed (datas_in t) (sizes_in t ws) → each_of (ok_decl (datas_in t) (sigs_in t)) (datas_in t) ≡ decls_in t ws
 decls_are t ws h fx = each_is t ws 0 t.done.datas (omega arith) h fx
 
--- the tests one after the other
-pub stop_1 : {a : Bool} (x : Bool) → a ≡ false → (a && x) ≡ false
-stop_1 x p = ap (λ a. a && x) p
+-- what is asked besides bodies, by rows and numbers
+swap : (a a' b b' c c' x y m : Bool) → a ≡ a' → b ≡ b' → c ≡ c' → (a ≡ true → x ≡ y) → (a && (b && (c && (x && m)))) ≡ (a' && (b' && (c' && (y && m))))
+swap true a' b b' c c' x y m p q r h = ap₂ ◌&&◌ p (ap₂ ◌&&◌ q (ap₂ ◌&&◌ r (ap (λ z. z && m) (h refl))))
+swap false a' b b' c c' x y m p q r h = ap (λ z. z && (b' && (c' && (y && m)))) p
 
-pub stop_2 : {a b : Bool} (x : Bool) → a ≡ true → b ≡ false → (a && (b && x)) ≡ false
-stop_2 x p q = ap₂ (λ a b. a && (b && x)) p q
-
-pub stop_3 : {a b c : Bool} (x : Bool) → a ≡ true → b ≡ true → c ≡ false → (a && (b && (c && x))) ≡ false
-stop_3 {a} {b} {c} x p q r = ap (λ a. a && (b && (c && x))) p ∙ stop_2 x q r
-
-pub stop_4 : {a b c d : Bool} (x : Bool) → a ≡ true → b ≡ true → c ≡ true → d ≡ false → (a && (b && (c && (d && x)))) ≡ false
-stop_4 {a} {b} {c} {d} x p q r s = ap (λ a. a && (b && (c && (d && x)))) p ∙ stop_3 x q r s
-
-pub goes : {a b c d : Bool} (x : Bool) → a ≡ true → b ≡ true → c ≡ true → d ≡ true → (a && (b && (c && (d && x)))) ≡ x
-goes {a} {b} {c} {d} x p q r s = ap (λ a. a && (b && (c && (d && x)))) p ∙ ap (λ b. b && (c && (d && x))) q ∙ ap (λ c. c && (d && x)) r ∙ ap (λ d. d && x) s
+pub rest_is : (t : Tables) (ws : List ℕ) (s u v : Span) → s ≡ span 0 t.done.datas → u ≡ span 0 t.done.ctors.first → v ≡ span 0 t.done.fns → Fixed (datas_in t) (sizes_in t ws) → ok_rest (datas_in t) (sigs_in t) ≡ (no_twice (all_in (λ k. (the_data t k).name) s) && (no_twice (all_in (λ k. (the_ctor t k).name) u) && (no_twice (all_in (λ k. (the_sig t k).name) v) && (decls_in t ws && ok_main (sigs_in t)))))
+rest_is t ws s u v e f g fx = swap _ _ _ _ _ _ _ _ _ (datas_once t s e) (ctors_once t u f) (sigs_once t v g) (λ h. decls_are t ws h fx)

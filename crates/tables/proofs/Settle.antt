@@ -1,5 +1,5 @@
 -- Sizes put into the table one by one: what is known stays sound, and where none can be told any more the table is fixed.
-use Rattle.std.proofs.Common.{◌≡◌, ℕ, zero, suc, ◌+◌, ◌<◌, ◌≤◌, Bool, true, false, eqb, ◌≢◌, ◌⊎◌, List, length, get_or, set, sym, refl, ap, ◌∙◌, subst, inl, inr, arith, eqb→eq, get_or-set_other, get_or-set_same}
+use Rattle.std.proofs.Common.{◌≡◌, ℕ, zero, suc, ◌+◌, ◌<◌, ◌≤◌, Bool, true, false, ◌||◌, eqb, ◌≢◌, ◌⊎◌, List, length, get_or, set, sym, refl, ap, ◌∙◌, subst, inl, inr, arith, eqb→eq, get_or-set_other, get_or-set_same}
 use mathlib.Core.Option.{Option, some, none}
 use Rattle.std.proofs.lemmas.Bool.{cases_eq}
 use Rattle.language.specs.Base.{choose, if_some, Lexeme, same}
@@ -115,9 +115,6 @@ pub record Settling (t : Tables) (ws vs : List ℕ) (d : ℕ) (more : Bool) : Ty
   pub fewer : unknowns vs t.done.datas + choose more 1 0 ≤ unknowns ws t.done.datas
   pub stuck : more ≡ false → (vs ≡ ws) × Stuck t ws d
 
-pub settling_none : (t : Tables) (ws : List ℕ) → Settling t ws ws 0 false
-settling_none t ws = record { sound = λ h. h; fewer = omega arith; stuck = λ e. (refl, λ k l. absurd (omega arith)) }
-
 pub settling_put : (t : Tables) (ws vs us : List ℕ) (d : ℕ) (more : Bool) → d < t.done.datas → d < length vs → Settles t d vs us true → Settling t ws vs d more → Settling t ws us (d + 1) true
 settling_put t ws vs us d more l r h g =
     let k = h.0 in
@@ -141,6 +138,12 @@ settling_past t ws vs us d more h g = record {
     on : (vs ≡ ws) × Stuck t ws d → {k : ℕ} → (k ≡ d) ⊎ (k ≢ d) → (j : ℕ) → j ≡ k → k < d + 1 → get_or ws k 0 ≡ 0 → data_by (sizes_in t ws) (the_data t k) ≡ none
     on p {k} (inl e) j q l z = ap (λ i. data_by (sizes_in t ws) (the_data t i)) e ∙ ap (λ ys. data_by (sizes_in t ys) (the_data t d)) (sym p.0) ∙ h.1 (ap (λ ys. get_or ys d 0) p.0 ∙ ap (λ i. get_or ws i 0) (sym e) ∙ z)
     on p {k} (inr ne) j q l z = p.1 k (omega arith) z
+
+pub settling_one : (t : Tables) (ws vs us : List ℕ) (d : ℕ) (more put : Bool) → d < t.done.datas → d < length vs → Settles t d vs us put → Settling t ws vs d more → Settling t ws us (d + 1) (more || put)
+settling_one t ws vs us d true true l r h g = settling_put t ws vs us d true l r h g
+settling_one t ws vs us d false true l r h g = settling_put t ws vs us d false l r h g
+settling_one t ws vs us d true false l r h g = settling_past t ws vs us d true h g
+settling_one t ws vs us d false false l r h g = settling_past t ws vs us d false h g
 
 pub settled : (t : Tables) (ws vs : List ℕ) (d : ℕ) (more : Bool) → d ≡ t.done.datas → Settling t ws vs d more → Advances t ws vs more
 settled t ws vs d more e g = record { sound = g.sound; fewer = g.fewer; stuck = λ f. (let p = g.stuck f in subst (λ ys. Stuck t ys t.done.datas) (sym p.0) (subst (Stuck t ws) e p.1)) }
@@ -169,6 +172,3 @@ none_known t ws h w m e = at (data_number t w) refl e
         let p = known_some (get_or ws j 0) m e in
         let r = p.1 in
         absurd (omega arith)
-
-pub settling_as : (t : Tables) (ws vs : List ℕ) (d : ℕ) (a b : Bool) → a ≡ b → Settling t ws vs d b → Settling t ws vs d a
-settling_as t ws vs d a b e h = subst (Settling t ws vs d) (sym e) h

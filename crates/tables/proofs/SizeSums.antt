@@ -1,7 +1,7 @@
 -- Sums of sizes as a loop makes them: from left to right, and given up once they are too large.
-use Rattle.std.proofs.Common.{◌≡◌, ℕ, ◌+◌, ◌-◌, ◌<◌, ◌≤◌, Bool, true, false, ltb, leb, sym, refl, ap, ◌∙◌, arith, leb→le}
+use Rattle.std.proofs.Common.{◌≡◌, ℕ, ◌+◌, ◌-◌, ◌<◌, ◌≤◌, Bool, true, false, ltb, leb, max, sym, refl, ap, ◌∙◌, arith, leb→le, ltb→lt}
 use mathlib.Core.Option.{Option, some, none}
-use lib.Dec.{nleb→lt}
+use lib.Dec.{nleb→lt, nltb→le}
 use Rattle.language.specs.Base.{choose, if_some, only_if}
 use Rattle.language.specs.Syntax.{Ty, Ctor}
 use Rattle.tables.specs.Index.{each_from}
@@ -11,6 +11,13 @@ use Rattle.tables.proofs.SizeFuel.{none_some, if_inv, is_T, is_not_T, larger_le,
 
 abbrev pub max_of : ℕ → ℕ → ℕ
 max_of a b = choose (ltb a b) b a
+
+pub max_is : (a b : ℕ) → max a b ≡ max_of a b
+max_is a b = at (ltb a b) refl
+  where
+    at : (c : Bool) → ltb a b ≡ c → max a b ≡ choose c b a
+    at true e = let h = ltb→lt a b (is_T e) in omega arith
+    at false e = let h = nltb→le a b (is_not_T e) in omega arith
 
 pub cap_big : (n : ℕ) → 4096 < n → cap n ≡ none
 cap_big n h = at (leb n 4096) refl
@@ -47,19 +54,6 @@ sum_big s f j n acc z h q = sym q ∙ at (fields_by s (each_from f j (n - j)))
     at none = refl
     at (some b) = cap_big (acc + b) (omega arith)
 
-pub sum_end : (s : Sizes) (f : ℕ → Ty) (j n acc : ℕ) (z : Option ℕ) → n ≤ j → acc ≤ 4096 → sum_from s f j n acc ≡ z → z ≡ some acc
-sum_end s f j n acc z h k q =
-    let e : n - j ≡ 0 = omega arith in
-    let g : acc + 0 ≡ acc = omega arith in
-    sym q ∙ ap (λ m. if_some (fields_by s (each_from f j m)) (λ b. cap (acc + b))) e ∙ ap cap g ∙ cap_le acc k
-
-pub sum_all : (s : Sizes) (f : ℕ → Ty) (i n : ℕ) → sum_from s f i n 0 ≡ if_some (fields_by s (each_from f i (n - i))) cap
-sum_all s f i n = at (fields_by s (each_from f i (n - i)))
-  where
-    at : (o : Option ℕ) → if_some o (λ b. cap (0 + b)) ≡ if_some o cap
-    at none = refl
-    at (some b) = let e : 0 + b ≡ b = omega arith in ap cap e
-
 -- the largest of what constructors take
 max_low : (a b n : ℕ) → a ≤ n → b ≤ n → max_of a b ≤ n
 max_low a b n p q = at (ltb a b)
@@ -78,9 +72,6 @@ max_assoc a b c =
     let low : max_of a (max_of b c) ≤ max_of (max_of a b) c = max_low a (max_of b c) _ (omega arith) (max_low b c _ (omega arith) (omega arith)) in
     let high : max_of (max_of a b) c ≤ max_of a (max_of b c) = max_low (max_of a b) c _ (max_low a b _ (omega arith) (omega arith)) (omega arith) in
     omega arith
-
-max_zero : (b : ℕ) → max_of 0 b ≡ b
-max_zero b = let p = larger_le 0 b in let p1 = p.1 in let low : max_of 0 b ≤ b = max_low 0 b b (omega arith) (omega arith) in omega arith
 
 abbrev pub top_from : Sizes → (ℕ → Ctor) → ℕ → ℕ → ℕ → Option ℕ
 top_from s f c n acc = if_some (ctors_by s (each_from f c (n - c))) (λ b. cap (1 + max_of acc b))
@@ -119,19 +110,3 @@ top_none s f c n acc z h e q = sym q ∙ top_step s f c n acc h ∙ at (fields_b
         by : (b : Bool) → leb a 4096 ≡ b → top_from s f (c + 1) n (max_of acc a) ≡ none
         by true k = none_some (sym e ∙ cap_le a (leb→le a 4096 (is_T k)))
         by false k = let l = nleb→lt a 4096 (is_not_T k) in let p = larger_le acc a in let p1 = p.1 in top_big s f (c + 1) n (max_of acc a) (omega arith)
-
-pub top_end : (s : Sizes) (f : ℕ → Ctor) (c n acc : ℕ) (z : Option ℕ) → n ≤ c → top_from s f c n acc ≡ z → z ≡ cap (1 + acc)
-top_end s f c n acc z h q =
-    let e : n - c ≡ 0 = omega arith in
-    let p = larger_le acc 0 in
-    let p0 = p.0 in
-    let low : max_of acc 0 ≤ acc = max_low acc 0 acc (omega arith) (omega arith) in
-    let g : max_of acc 0 ≡ acc = omega arith in
-    sym q ∙ ap (λ m. if_some (ctors_by s (each_from f c m)) (λ b. cap (1 + max_of acc b))) e ∙ ap (λ m. cap (1 + m)) g
-
-pub top_all : (s : Sizes) (f : ℕ → Ctor) (i n : ℕ) → top_from s f i n 0 ≡ if_some (ctors_by s (each_from f i (n - i))) (λ m. cap (1 + m))
-top_all s f i n = at (ctors_by s (each_from f i (n - i)))
-  where
-    at : (o : Option ℕ) → if_some o (λ b. cap (1 + max_of 0 b)) ≡ if_some o (λ m. cap (1 + m))
-    at none = refl
-    at (some b) = ap (λ m. cap (1 + m)) (max_zero b)

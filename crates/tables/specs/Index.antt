@@ -1,7 +1,7 @@
 -- Lists as what stands at each number of a range, and the first number of a range that passes a test.
 use Rattle.std.specs.Prelude.{ℕ, zero, suc, ◌-◌, Bool, List, [], ◌∷◌}
 use Rattle.std.proofs.Math.Option.{Option, some, none}
-use Rattle.language.specs.Base.{choose, same}
+use Rattle.language.specs.Base.{choose, Lexeme, same}
 use Rattle.lexer.specs.declared.name.Name.{Name}
 use Rattle.lexer.specs.Spelling.{spelling}
 use Rattle.tables.specs.declared.span.Span.{Span}
@@ -26,6 +26,6 @@ all_in f s = each_from f s.first (s.end - s.first)
 abbrev pub first_in : (ℕ → Bool) → Span → Option ℕ
 first_in p s = first_from p s.first (s.end - s.first)
 
--- whether the row with a number has the name
-abbrev pub is_named : {R : Type 0} → List ℕ → (R → Name) → (ℕ → R) → Name → ℕ → Bool
-is_named text title row name k = same (spelling text (title (row k))) (spelling text name)
+-- whether the name of the row with a number is spelled so
+abbrev pub is_spelled : {R : Type 0} → List ℕ → (R → Name) → (ℕ → R) → Lexeme → ℕ → Bool
+is_spelled text title row word k = same (spelling text (title (row k))) word

@@ -7,10 +7,10 @@ use Rattle.language.specs.Checks.{data_named, ctor_named, home_of}
 use Rattle.code.specs.Instr.{Instr}
 use Rattle.lexer.specs.declared.name.Name.{Name}
 use Rattle.lexer.specs.Spelling.{spelling}
-use Rattle.tables.specs.declared.ids.DataId.{DataId}
-use Rattle.tables.specs.declared.ids.CtorId.{CtorId}
-use Rattle.tables.specs.declared.ids.FnId.{FnId}
-use Rattle.tables.specs.declared.ids.Owner.{Owner}
+use Rattle.tables.specs.declared.refs.DataRef.{DataRef}
+use Rattle.tables.specs.declared.refs.CtorRef.{CtorRef}
+use Rattle.tables.specs.declared.refs.FnRef.{FnRef}
+use Rattle.tables.specs.declared.refs.Owner.{Owner}
 use Rattle.types.specs.declared.ty.ValueType.{ValueType}
 use Rattle.types.specs.Types.{type_of}
 use Rattle.tables.specs.declared.tables.Tables.{Tables}
@@ -51,6 +51,19 @@ the_entry t = entry_at (source_of t) (words_in t)
 abbrev pub the_param : Tables → ℕ → Param
 the_param t = param_at (source_of t) (words_in t)
 
+-- what a reference to a row stands for
+abbrev pub data_of : DataRef → Data
+data_of d = the_data d.tables d.number
+
+abbrev pub ctor_of : CtorRef → Ctor
+ctor_of c = the_ctor c.tables c.number
+
+abbrev pub head_of : FnRef → Sig
+head_of f = the_sig f.tables f.number
+
+abbrev pub entry_of : FnRef → Entry
+entry_of f = the_entry f.tables f.number
+
 -- the instructions from one on
 abbrev pub code_from : Tables → ℕ → List Instr
 code_from t k = (source_of t).code_from k
@@ -76,18 +89,18 @@ pub record NoData (t : Tables) (w : Lexeme) : Type 0 where
   pub is : data_named (datas_in t) w ≡ none
   pub number : data_number t w ≡ none
 
-abbrev pub FindsData : Tables → Name → Option DataId → Type 0
-FindsData t name None = NoData t (spelled t name)
-FindsData t name (Some d) = FoundData t (spelled t name) d.0
+abbrev pub FindsData : Tables → Lexeme → Option DataRef → Type 0
+FindsData t w None = NoData t w
+FindsData t w (Some d) = FoundData t w d.number × (d.tables ≡ t)
 
-abbrev pub FindsCtor : Tables → ℕ → Name → Option CtorId → Type 0
-FindsCtor t d name None = ctor_named (the_data t d).ctors (spelled t name) ≡ none
-FindsCtor t d name (Some c) = (ctor_named (the_data t d).ctors (spelled t name) ≡ some (the_ctor t c.0)) × (c.0 < t.done.ctors.end)
+abbrev pub FindsCtor : DataRef → Lexeme → Option CtorRef → Type 0
+FindsCtor d w None = ctor_named (data_of d).ctors w ≡ none
+FindsCtor d w (Some c) = (ctor_named (data_of d).ctors w ≡ some (ctor_of c)) × (c.tables ≡ d.tables)
 
-abbrev pub FindsHome : Tables → Name → Option Owner → Type 0
-FindsHome t name None = home_of (datas_in t) (spelled t name) ≡ none
-FindsHome t name (Some h) = (home_of (datas_in t) (spelled t name) ≡ some (record { data1 = the_data t h.of.0; ctor1 = the_ctor t h.ctor.0 })) × (h.of.0 < t.done.datas) × (h.ctor.0 < t.done.ctors.end)
+abbrev pub FindsHome : Tables → Lexeme → Option Owner → Type 0
+FindsHome t w None = home_of (datas_in t) w ≡ none
+FindsHome t w (Some h) = (home_of (datas_in t) w ≡ some (record { data1 = data_of h.of; ctor1 = ctor_of h.ctor })) × (h.of.tables ≡ t) × (h.ctor.tables ≡ t)
 
-abbrev pub FindsFn : Tables → Name → Option FnId → Type 0
-FindsFn t name None = sig_named (sigs_in t) (spelled t name) ≡ none
-FindsFn t name (Some f) = (sig_named (sigs_in t) (spelled t name) ≡ some (the_sig t f.0)) × (f.0 < t.done.fns)
+abbrev pub FindsFn : Tables → Lexeme → Option FnRef → Type 0
+FindsFn t w None = sig_named (sigs_in t) w ≡ none
+FindsFn t w (Some f) = (sig_named (sigs_in t) w ≡ some (head_of f)) × (f.tables ≡ t)

@@ -1,62 +1,74 @@
-ghost use Rattle.std.specs.Prelude.{◌≡◌, ℕ, ◌<◌, ◌≤◌, List};
-ghost use Rattle.types.specs.Types.{written, type_of};
+ghost use Rattle.std.specs.Prelude.{◌≡◌, ◌<◌, ◌≤◌};
 ghost use Rattle.types.specs.declared.ty.Outer.TheVariants.{Plain};
 ghost use Rattle.tables.specs.Index.{all_in};
 ghost use Rattle.tables.specs.Known.{the_field};
-ghost use Rattle.tables.specs.Tables.{code_from, the_ctor, the_data, the_entry, the_param, the_sig, type_in, spelled};
+ghost use Rattle.tables.specs.Tables.{code_from, the_ctor, the_param, type_in, spelled, data_of, ctor_of, head_of, entry_of};
 
-use crate::ids::{CtorId, DataId, FnId};
-use crate::row::Row;
+use crate::refs::{CtorRef, DataRef, FnRef};
 use crate::rows::{Declared, Parameter};
 use crate::span::Span;
 use crate::tables::Tables;
+use code::Record;
 use lexer::Name;
-use types::{Base, Outer, ValueType};
+use types::ValueType;
 
-// The type that stands before an instruction of the code.
-fn type_before(slot: usize) -> ValueType
-    ensures is { (text code : List ℕ) → type_of text code result ≡ written text code slot }
-    ensures plain { result.outer ≡ Plain }
-    ensures boxes { result.boxes ≡ 0 }
-{
-    ValueType {
-        outer: Outer::Plain,
-        boxes: 0,
-        base: Base::Written(slot),
+impl DataRef<'_> {
+    pub fn name(self) -> Name
+        ensures { spelled self.entry.tables result ≡ (data_of self.entry).name }
+    {
+        Declared::load(self.tables.datas, self.number).name
+    }
+
+    pub fn ctors(self) -> Span
+        ensures is { (data_of self.entry).ctors ≡ all_in (the_ctor self.entry.tables) result }
+        ensures within { result.end ≤ self.entry.tables.done.ctors.end }
+    {
+        Declared::load(self.tables.datas, self.number).parts
+    }
+}
+
+impl CtorRef<'_> {
+    pub fn name(self) -> Name
+        ensures { spelled self.entry.tables result ≡ (ctor_of self.entry).name }
+    {
+        Declared::load(self.tables.ctors, self.number).name
+    }
+
+    pub fn fields(self) -> Span
+        ensures is { (ctor_of self.entry).fields ≡ all_in (the_field self.entry.tables) result }
+        ensures within { result.end ≤ self.entry.tables.done.fields.end }
+    {
+        Declared::load(self.tables.ctors, self.number).parts
+    }
+}
+
+impl FnRef<'_> {
+    pub fn params(self) -> Span
+        ensures is { (head_of self.entry).params ≡ all_in (the_param self.entry.tables) result }
+        ensures within { result.end ≤ self.entry.tables.done.params.end }
+    {
+        Declared::load(self.tables.fns, self.number).parts
+    }
+
+    // The type of what it gives.
+    pub fn gives(self) -> ValueType
+        ensures is { type_in self.entry.tables result ≡ (head_of self.entry).ret }
+        ensures plain { result.outer ≡ Plain }
+        ensures boxes { result.boxes ≡ 0 }
+    {
+        ValueType::written(Declared::load(self.tables.fns, self.number).at)
+    }
+
+    // Where its body begins in the code.
+    pub fn body(self) -> usize
+        ensures is { code_from self.entry.tables result ≡ (entry_of self.entry).code }
+        ensures within { result ≤ self.entry.tables.size }
+    {
+        Declared::load(self.tables.fns, self.number).at + 1
     }
 }
 
 impl Tables<'_> {
-    pub fn data_name(self, data: DataId) -> Name
-        requires { «data».0 < self.done.datas }
-        ensures { spelled self.entry result ≡ (the_data self.entry «data».0).name }
-    {
-        Declared::load(self.datas, data.0).name
-    }
-
-    pub fn ctors_of(self, data: DataId) -> Span
-        requires { «data».0 < self.done.datas }
-        ensures is { (the_data self.entry «data».0).ctors ≡ all_in (the_ctor self.entry) result }
-        ensures within { result.end ≤ self.entry.done.ctors.end }
-    {
-        Declared::load(self.datas, data.0).parts
-    }
-
-    pub fn ctor_name(self, ctor: CtorId) -> Name
-        requires { ctor.0 < self.done.ctors.end }
-        ensures { spelled self.entry result ≡ (the_ctor self.entry ctor.0).name }
-    {
-        Declared::load(self.ctors, ctor.0).name
-    }
-
-    pub fn fields_of(self, ctor: CtorId) -> Span
-        requires { ctor.0 < self.done.ctors.end }
-        ensures is { (the_ctor self.entry ctor.0).fields ≡ all_in (the_field self.entry) result }
-        ensures within { result.end ≤ self.entry.done.fields.end }
-    {
-        Declared::load(self.ctors, ctor.0).parts
-    }
-
     // The type of the field with a number.
     pub fn field_type(self, number: usize) -> ValueType
         requires { number < self.done.fields.end }
@@ -64,15 +76,7 @@ impl Tables<'_> {
         ensures plain { result.outer ≡ Plain }
         ensures boxes { result.boxes ≡ 0 }
     {
-        type_before(self.fields[number] as usize)
-    }
-
-    pub fn params_of(self, function: FnId) -> Span
-        requires { function.0 < self.done.fns }
-        ensures is { (the_sig self.entry function.0).params ≡ all_in (the_param self.entry) result }
-        ensures within { result.end ≤ self.entry.done.params.end }
-    {
-        Declared::load(self.fns, function.0).parts
+        ValueType::written(self.fields[number] as usize)
     }
 
     // The name and the type of the parameter with a number.
@@ -89,25 +93,6 @@ impl Tables<'_> {
         ensures plain { result.outer ≡ Plain }
         ensures boxes { result.boxes ≡ 0 }
     {
-        type_before(Parameter::load(self.params, number).at)
-    }
-
-    // The type of what a function gives.
-    pub fn gives(self, function: FnId) -> ValueType
-        requires { function.0 < self.done.fns }
-        ensures is { type_in self.entry result ≡ (the_sig self.entry function.0).ret }
-        ensures plain { result.outer ≡ Plain }
-        ensures boxes { result.boxes ≡ 0 }
-    {
-        type_before(Declared::load(self.fns, function.0).at)
-    }
-
-    // Where a function's body begins in the code.
-    pub fn body_of(self, function: FnId) -> usize
-        requires { function.0 < self.done.fns }
-        ensures is { code_from self.entry result ≡ (the_entry self.entry function.0).code }
-        ensures within { result ≤ self.entry.size }
-    {
-        Declared::load(self.fns, function.0).at + 1
+        ValueType::written(Parameter::load(self.params, number).at)
     }
 }

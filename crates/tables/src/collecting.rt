@@ -9,11 +9,10 @@ ghost use Rattle.tables.specs.Tables.{datas_in, entries_in};
 
 use crate::progress::Progress;
 use crate::room::Room;
-use crate::row::Row;
 use crate::rows::{Declared, Parameter};
 use crate::span::Span;
 use crate::tables::Tables;
-use code::{Instr, decode};
+use code::{Instr, Record, decode};
 
 // Notes what the instruction at a place of the code declares.
 fn note(room: &mut Room, done: Progress, at: usize, instr: Instr) -> Progress
@@ -62,35 +61,13 @@ fn note(room: &mut Room, done: Progress, at: usize, instr: Instr) -> Progress
             next.fns += 1;
             next.params.first = done.params.end;
         }
-        Instr::Num(_)
-        | Instr::Var(_)
-        | Instr::Int
-        | Instr::Op(_)
-        | Instr::Make(_)
-        | Instr::Call(_)
-        | Instr::Arg
-        | Instr::Apply => {}
-        Instr::Box | Instr::Share(_) | Instr::Lend(_) | Instr::Load(_) | Instr::Get => {}
-        Instr::Bind(_)
-        | Instr::Assign(_)
-        | Instr::Store(_)
-        | Instr::Put
-        | Instr::If
-        | Instr::Else
-        | Instr::EndIf => {}
-        Instr::While
-        | Instr::Do
-        | Instr::EndWhile
-        | Instr::Match(_, _)
-        | Instr::Arm(_)
-        | Instr::Part(_)
-        | Instr::Body => {}
-        Instr::EndArm
-        | Instr::EndMatch
-        | Instr::Open(_, _)
-        | Instr::Inside(_, _)
-        | Instr::Give
-        | Instr::EndFn => {}
+        Instr::Num(_) | Instr::Var(_) | Instr::Int | Instr::Op(_) | Instr::Make(_) => {}
+        Instr::Call(_) | Instr::Arg | Instr::Apply | Instr::Box | Instr::Share(_) => {}
+        Instr::Lend(_) | Instr::Load(_) | Instr::Get | Instr::Bind(_) | Instr::Assign(_) => {}
+        Instr::Store(_) | Instr::Put | Instr::If | Instr::Else | Instr::EndIf => {}
+        Instr::While | Instr::Do | Instr::EndWhile | Instr::Match(_, _) | Instr::Arm(_) => {}
+        Instr::Part(_) | Instr::Body | Instr::EndArm | Instr::EndMatch => {}
+        Instr::Open(_, _) | Instr::Inside(_, _) | Instr::Give | Instr::EndFn => {}
         Instr::TyInt | Instr::TyData(_) | Instr::TyBox | Instr::TyRef | Instr::TyMut => {}
     }
     next
@@ -103,10 +80,10 @@ fn note_slot(code: &[u64], room: &mut Room, done: Progress, at: usize) -> Progre
     ensures noted { NotedSlot (instr_at code.now at) at (words_of room.old) done (words_of room.new) result }
     ensures lengths { SameLengths (words_of room.old) (words_of room.new) }
 {
-    match decode(code, at) {
-        Some(instr) => note(room, done, at, instr),
-        None => done,
-    }
+    let Some(instr) = decode(code, at) else {
+        return done;
+    };
+    note(room, done, at, instr)
 }
 
 // Notes each of the code's instructions.

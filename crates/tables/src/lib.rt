@@ -7,36 +7,38 @@ mod access;
 mod collecting;
 mod fault;
 mod heads;
-mod ids;
+mod key;
 mod lookup;
 mod measure;
 mod parts;
 mod progress;
+mod refs;
 mod repeated;
 mod rest;
 mod room;
 mod row;
 mod rows;
 mod sizes;
+mod sizing;
 mod span;
 mod table;
 mod tables;
 mod well;
-mod word;
 
 pub use collecting::collect;
 pub use fault::Fault;
-pub use ids::{CtorId, DataId, FnId, Owner};
+pub use key::Key;
 pub use progress::Progress;
+pub use refs::{CtorRef, DataRef, FnRef, Owner};
 pub use repeated::twice;
 pub use room::Room;
 pub use row::Row;
 pub use rows::{Declared, Parameter};
 pub use sizes::measure_all;
+pub use sizing::Sizing;
 pub use span::Span;
 pub use table::find;
 pub use tables::Tables;
-pub use word::find_word;
 
 // A table of sizes that one more round leaves as it is has the definition's sizes.
 pub fn sizes_right() -> u8

@@ -4,11 +4,9 @@ ghost use Rattle.language.specs.Checks.{ok_ctor};
 ghost use Rattle.tables.specs.Index.{all_in};
 ghost use Rattle.tables.specs.Known.{the_field};
 ghost use Rattle.tables.specs.Rest.{ok_field};
-ghost use Rattle.tables.specs.Tables.{datas_in, the_ctor, the_data};
+ghost use Rattle.tables.specs.Tables.{datas_in, the_ctor, data_of};
 
-use crate::ids::{CtorId, DataId};
-use crate::row::Row;
-use crate::rows::Declared;
+use crate::refs::{CtorRef, DataRef};
 use crate::span::Span;
 use crate::tables::Tables;
 
@@ -20,42 +18,34 @@ impl Tables<'_> {
         requires { fields.end ≤ self.done.fields.end }
         ensures { result ≡ each_of (ok_field (datas_in self.entry)) (all_in (the_field self.entry) fields) }
     {
-        for j in fields.first..fields.end {
-            if !self.field_ok(self.fields[j] as usize) {
-                return false;
-            }
-        }
-        true
+        (fields.first..fields.end).all(|j| self.field_ok(self.fields[j] as usize))
     }
 
-    fn ctor_ok(self, ctor: CtorId) -> bool
-        requires { ctor.0 < self.done.ctors.end }
-        ensures { result ≡ ok_ctor (datas_in self.entry) (the_ctor self.entry ctor.0) }
+    fn ctor_ok(self, number: usize) -> bool
+        requires { number < self.done.ctors.end }
+        ensures { result ≡ ok_ctor (datas_in self.entry) (the_ctor self.entry number) }
     {
-        let fields = Declared::load(self.ctors, ctor.0).parts;
-        if fields.count() > MOST_FIELDS {
-            return false;
-        }
-        self.fields_ok(fields)
+        let tables = self;
+        let fields = CtorRef { tables, number }.fields();
+        fields.count() <= MOST_FIELDS && self.fields_ok(fields)
     }
 
-    // The first constructor of a data type whose fields aren't as they should be.
-    pub fn bad_ctor(self, data: DataId) -> Option<CtorId>
-        requires { «data».0 < self.done.datas }
-        ensures { MatchOption result (each_of (ok_ctor (datas_in self.entry)) (the_data self.entry «data».0).ctors ≡ true) (λ c. (each_of (ok_ctor (datas_in self.entry)) (the_data self.entry «data».0).ctors ≡ false) × (c.0 < self.entry.done.ctors.end)) }
-    {
-        self.bad_ctor_in(Declared::load(self.datas, data.0).parts)
-    }
-
-    fn bad_ctor_in(self, ctors: Span) -> Option<CtorId>
+    // The number of the first of these constructors whose fields aren't as they should be.
+    fn bad_ctor_in(self, ctors: Span) -> Option<usize>
         requires { ctors.end ≤ self.done.ctors.end }
-        ensures { MatchOption result (each_of (ok_ctor (datas_in self.entry)) (all_in (the_ctor self.entry) ctors) ≡ true) (λ c. (each_of (ok_ctor (datas_in self.entry)) (all_in (the_ctor self.entry) ctors) ≡ false) × (c.0 < self.entry.done.ctors.end)) }
+        ensures { MatchOption result (each_of (ok_ctor (datas_in self.entry)) (all_in (the_ctor self.entry) ctors) ≡ true) (λ k. (each_of (ok_ctor (datas_in self.entry)) (all_in (the_ctor self.entry) ctors) ≡ false) × (k < ctors.end)) }
     {
-        for c in ctors.first..ctors.end {
-            if !self.ctor_ok(CtorId(c)) {
-                return Some(CtorId(c));
-            }
-        }
-        None
+        (ctors.first..ctors.end).find(|&c| !self.ctor_ok(c))
+    }
+}
+
+impl<'a> DataRef<'a> {
+    // The first of its constructors whose fields aren't as they should be.
+    pub fn bad_ctor(self) -> Option<CtorRef<'a>>
+        ensures { MatchOption result (each_of (ok_ctor (datas_in self.entry.tables)) (data_of self.entry).ctors ≡ true) (λ c. (each_of (ok_ctor (datas_in self.entry.tables)) (data_of self.entry).ctors ≡ false) × (c.tables ≡ self.entry.tables)) }
+    {
+        let tables = self.tables;
+        let number = tables.bad_ctor_in(self.ctors())?;
+        Some(CtorRef { tables, number })
     }
 }

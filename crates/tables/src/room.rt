@@ -1,4 +1,4 @@
-// The words lent for the tables.
+// The words lent for the tables: five slices, since nothing is allocated and each row is so many words of its table.
 #[derive(Drop)]
 pub struct Room<'a> {
     pub datas: &'a mut [u64],

@@ -3,6 +3,7 @@ ghost use Rattle.tables.specs.Rows.{declared_row, param_row};
 
 use crate::row::Row;
 use crate::span::Span;
+use code::Record;
 use lexer::Name;
 
 // A declaration: its name, where its instruction stands in the code, and its parts: the constructors of data, the fields of a
@@ -22,15 +23,17 @@ pub struct Parameter {
 }
 
 impl Row for Declared {
-    ghost width = { 4 };
-
-    ghost kept = { declared_row };
-
     ghost title = { λ r. r.name };
 
     fn name(self) -> Name {
         self.name
     }
+}
+
+impl Record for Declared {
+    ghost width = { 4 };
+
+    ghost kept = { declared_row };
 
     fn load(words: &[u64], number: usize) -> Declared {
         let i = 4 * number;
@@ -55,15 +58,17 @@ impl Row for Declared {
 }
 
 impl Row for Parameter {
-    ghost width = { 2 };
-
-    ghost kept = { param_row };
-
     ghost title = { λ r. r.name };
 
     fn name(self) -> Name {
         self.name
     }
+}
+
+impl Record for Parameter {
+    ghost width = { 2 };
+
+    ghost kept = { param_row };
 
     fn load(words: &[u64], number: usize) -> Parameter {
         let i = 2 * number;

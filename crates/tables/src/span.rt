@@ -8,14 +8,17 @@ pub struct Span {
 }
 
 impl Span {
+    // The rows before the end.
+    pub fn up_to(end: usize) -> Span
+        ensures { result ≡ record { first = 0; end = end } }
+    {
+        Span { first: 0, end }
+    }
+
     // How many there are.
     pub fn count(self) -> usize
         ensures { result ≡ self.end - self.first }
     {
-        if self.first < self.end {
-            self.end - self.first
-        } else {
-            0
-        }
+        self.end.saturating_sub(self.first)
     }
 }

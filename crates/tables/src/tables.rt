@@ -3,7 +3,8 @@ ghost use Rattle.tables.specs.Fit.{Parts, Places, FieldPlaces, ParamPlaces, Join
 
 use crate::progress::Progress;
 
-// The declarations of a program, in words that were lent: with the text and the code, of so many instructions, that rows point at.
+// The declarations of a program, in words that were lent, a slice for each table, since nothing is allocated: with the text and the
+// code, of so many instructions, that rows point at.
 #[derive(Clone, Copy)]
 pub struct Tables<'a> {
     pub text: &'a [u8],

@@ -5,7 +5,6 @@ ghost use Rattle.types.specs.Types.{written};
 ghost use Rattle.tables.specs.Rest.{ok_field};
 ghost use Rattle.tables.specs.Tables.{datas_in, spelled, type_in};
 
-use crate::measure::written_before;
 use crate::tables::Tables;
 use lexer::Name;
 use types::{Shape, ValueType, is_owned, shape};
@@ -15,10 +14,7 @@ impl Tables<'_> {
     fn exists(self, name: Name) -> bool
         ensures { result ≡ present (data_named (datas_in self.entry) (spelled self.entry name)) }
     {
-        match self.find_data(name) {
-            Some(_) => true,
-            None => false,
-        }
+        self.find_data(name).is_some()
     }
 
     // Of what's owned: whether it is well made, which is up to what's innermost.
@@ -31,8 +27,7 @@ impl Tables<'_> {
                 Shape::Int => return true,
                 Shape::Data(name) => return self.exists(name),
                 Shape::Box(inner) => t = inner,
-                Shape::Ref(_) => return false,
-                Shape::Mut(_) => return false,
+                Shape::Ref(_) | Shape::Mut(_) => return false,
             }
         }
     }
@@ -44,24 +39,16 @@ impl Tables<'_> {
         let inner = match shape(self.code, ty) {
             Shape::Int => return true,
             Shape::Data(name) => return self.exists(name),
-            Shape::Box(inner) => inner,
-            Shape::Ref(inner) => inner,
-            Shape::Mut(inner) => inner,
+            Shape::Box(inner) | Shape::Ref(inner) | Shape::Mut(inner) => inner,
         };
-        if !is_owned(self.code, inner) {
-            return false;
-        }
-        self.inner_exists(inner)
+        is_owned(self.code, inner) && self.inner_exists(inner)
     }
 
     // Whether the type before a slot may be a field's: owned and well made.
     pub fn field_ok(self, slot: usize) -> bool
         ensures { result ≡ ok_field (datas_in self.entry) (written self.entry.text.now self.entry.code.now slot) }
     {
-        let ty = written_before(slot);
-        if !is_owned(self.code, ty) {
-            return false;
-        }
-        self.well_made(ty)
+        let ty = ValueType::written(slot);
+        is_owned(self.code, ty) && self.well_made(ty)
     }
 }

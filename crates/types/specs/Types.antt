@@ -8,7 +8,7 @@ use Rattle.code.specs.declared.instr.Instr.{Instr}
 use Rattle.code.specs.declared.instr.Instr.TheVariants.{Num, Var, Int as AnInt, Op, Make, Call, Arg, Apply, Box as BoxIt, Share, Lend, Load, Get, Bind, Assign, Store, Put, If, Else, EndIf, While, Do, EndWhile, Match, Arm, Part, Body, EndArm, EndMatch, Open, Inside, Give, EndFn, TyInt, TyData, TyBox, TyRef, TyMut, Field, Ctor, Data as ADatum, Param, Fn}
 use Rattle.code.specs.Words.{instr_at}
 use Rattle.types.specs.declared.role.Role.{Role}
-use Rattle.types.specs.declared.role.Role.TheVariants.{Int, Named, Boxed, Shared, Lent, Ends, Passes}
+use Rattle.types.specs.declared.role.Role.TheVariants.{Int, Named, Boxed, Shared, Lent, Ends}
 use Rattle.types.specs.declared.ty.Outer.{Outer}
 use Rattle.types.specs.declared.ty.Outer.TheVariants.{Plain, Ref, Mut}
 use Rattle.types.specs.declared.ty.Base.{Base}
@@ -19,69 +19,73 @@ use Rattle.types.specs.declared.ty.Shape.TheVariants.{Int as IsInt, Data as IsDa
 use Rattle.types.specs.declared.same.Compared.{Compared}
 use Rattle.types.specs.declared.same.Compared.TheVariants.{Same, Differ, Within}
 
--- what an instruction does to the type under way
-abbrev pub role_of : Instr → Role
-role_of (Num x) = Passes
-role_of (Var x) = Passes
-role_of AnInt = Passes
-role_of (Op x) = Passes
-role_of (Make x) = Passes
-role_of (Call x) = Passes
-role_of Arg = Passes
-role_of Apply = Passes
-role_of BoxIt = Passes
-role_of (Share x) = Passes
-role_of (Lend x) = Passes
-role_of (Load x) = Passes
-role_of Get = Passes
-role_of (Bind x) = Passes
-role_of (Assign x) = Passes
-role_of (Store x) = Passes
-role_of Put = Passes
-role_of If = Passes
-role_of Else = Passes
-role_of EndIf = Passes
-role_of While = Passes
-role_of Do = Passes
-role_of EndWhile = Passes
-role_of (Match x y) = Passes
-role_of (Arm x) = Passes
-role_of (Part x) = Passes
-role_of Body = Passes
-role_of EndArm = Passes
-role_of EndMatch = Passes
-role_of (Open x y) = Passes
-role_of (Inside x y) = Passes
-role_of Give = Passes
-role_of EndFn = Passes
-role_of TyInt = Int
-role_of (TyData x) = Named x
-role_of TyBox = Boxed
-role_of TyRef = Shared
-role_of TyMut = Lent
-role_of Field = Ends
-role_of (Ctor x) = Ends
-role_of (ADatum x y) = Ends
-role_of (Param x) = Ends
-role_of (Fn x) = Ends
+-- what an instruction makes of the type under way, if it changes it
+abbrev pub role_of : Instr → Option Role
+role_of (Num x) = None
+role_of (Var x) = None
+role_of AnInt = None
+role_of (Op x) = None
+role_of (Make x) = None
+role_of (Call x) = None
+role_of Arg = None
+role_of Apply = None
+role_of BoxIt = None
+role_of (Share x) = None
+role_of (Lend x) = None
+role_of (Load x) = None
+role_of Get = None
+role_of (Bind x) = None
+role_of (Assign x) = None
+role_of (Store x) = None
+role_of Put = None
+role_of If = None
+role_of Else = None
+role_of EndIf = None
+role_of While = None
+role_of Do = None
+role_of EndWhile = None
+role_of (Match x y) = None
+role_of (Arm x) = None
+role_of (Part x) = None
+role_of Body = None
+role_of EndArm = None
+role_of EndMatch = None
+role_of (Open x y) = None
+role_of (Inside x y) = None
+role_of Give = None
+role_of EndFn = None
+role_of TyInt = Some Int
+role_of (TyData x) = Some (Named x)
+role_of TyBox = Some Boxed
+role_of TyRef = Some Shared
+role_of TyMut = Some Lent
+role_of Field = Some Ends
+role_of (Ctor x) = Some Ends
+role_of (ADatum x y) = Some Ends
+role_of (Param x) = Some Ends
+role_of (Fn x) = Some Ends
 
-abbrev pub role_in : Option Instr → Role
-role_in None = Passes
+abbrev pub role_in : Option Instr → Option Role
+role_in None = None
 role_in (Some i) = role_of i
 
 -- behind the code's end nothing is done
-abbrev pub role_at : List ℕ → ℕ → Role
-role_at code k = choose (nat_lt k (length code / 3)) (role_in (instr_at code k)) Passes
+abbrev pub role_at : List ℕ → ℕ → Option Role
+role_at code k = choose (nat_lt k (length code / 3)) (role_in (instr_at code k)) None
+
+-- what a role makes of the type under way
+abbrev pub made : List ℕ → Role → Ty → Ty
+made text Int t = int
+made text (Named x) t = dat (spelling text x)
+made text Boxed t = box t
+made text Shared t = ref t
+made text Lent t = mut t
+made text Ends t = int
 
 -- the type under way behind it
-abbrev pub after : List ℕ → Role → Ty → Ty
-after text Int t = int
-after text (Named x) t = dat (spelling text x)
-after text Boxed t = box t
-after text Shared t = ref t
-after text Lent t = mut t
-after text Ends t = int
-after text Passes t = t
+abbrev pub after : List ℕ → Option Role → Ty → Ty
+after text None t = t
+after text (Some r) t = made text r t
 
 -- the type under way behind the first k instructions
 abbrev pub written : List ℕ → List ℕ → ℕ → Ty

@@ -4,7 +4,7 @@ ghost use Rattle.types.specs.declared.ty.Outer.TheVariants.{Plain};
 ghost use Rattle.language.specs.Checks.{owned};
 ghost use Rattle.types.specs.Types.{written, base_of, type_of, shape_of, Inner, Bare, within, boxes};
 
-use crate::role::{Role, role_at};
+use crate::role::role_at;
 use crate::ty::{Base, Outer, Shape, ValueType};
 
 // The outermost layer of what is written behind that many instructions.
@@ -12,22 +12,9 @@ fn written_shape(code: &[u64], slot: usize) -> Shape
     ensures layer { (text : List ℕ) → shape_of text code.now result ≡ written text code.now slot }
     ensures inner { Inner 0 result }
 {
-    let mut k = slot;
-    while k > 0 {
-        k -= 1;
-        let inner = ValueType {
-            outer: Outer::Plain,
-            boxes: 0,
-            base: Base::Written(k),
-        };
-        match role_at(code, k) {
-            Role::Int => return Shape::Int,
-            Role::Named(name) => return Shape::Data(name),
-            Role::Boxed => return Shape::Box(inner),
-            Role::Shared => return Shape::Ref(inner),
-            Role::Lent => return Shape::Mut(inner),
-            Role::Ends => return Shape::Int,
-            Role::Passes => {}
+    for k in (0..slot).rev() {
+        if let Some(role) = role_at(code, k) {
+            return role.shape(k);
         }
     }
     Shape::Int
@@ -41,19 +28,15 @@ pub fn shape(code: &[u64], ty: ValueType) -> Shape
 {
     let inner = ValueType {
         outer: Outer::Plain,
-        boxes: ty.boxes,
-        base: ty.base,
+        ..ty
     };
     match ty.outer {
         Outer::Ref => Shape::Ref(inner),
         Outer::Mut => Shape::Mut(inner),
         Outer::Plain => {
             if ty.boxes > 0 {
-                Shape::Box(ValueType {
-                    outer: Outer::Plain,
-                    boxes: ty.boxes - 1,
-                    base: ty.base,
-                })
+                let boxes = ty.boxes - 1;
+                Shape::Box(ValueType { boxes, ..inner })
             } else {
                 base_shape(code, ty.base)
             }
@@ -98,7 +81,7 @@ pub fn boxed(ty: ValueType) -> ValueType
     ValueType {
         outer: Outer::Plain,
         boxes: ty.boxes + 1,
-        base: ty.base,
+        ..ty
     }
 }
 
@@ -107,9 +90,5 @@ pub fn behind(outer: Outer, ty: ValueType) -> ValueType
     ensures is { (text code : List ℕ) → ty.outer ≡ Plain → type_of text code result ≡ within outer (type_of text code ty) }
     ensures count { result.boxes ≡ ty.boxes }
 {
-    ValueType {
-        outer,
-        boxes: ty.boxes,
-        base: ty.base,
-    }
+    ValueType { outer, ..ty }
 }

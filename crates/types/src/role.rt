@@ -1,10 +1,11 @@
-ghost use Rattle.std.specs.Prelude.{◌≡◌};
-ghost use Rattle.types.specs.Types.{role_of, role_at};
+ghost use Rattle.std.specs.Prelude.{◌≡◌, ℕ, List};
+ghost use Rattle.types.specs.Types.{role_of, role_at, made, written, shape_of, Inner};
 
+use crate::ty::{Shape, ValueType};
 use code::{Instr, decode};
 use lexer::Name;
 
-// What an instruction does to the type that is under way: types are written inside out, and end with what is declared of them.
+// What an instruction makes of the type that is under way: types are written inside out, and end with what is declared of them.
 #[derive(Clone, Copy)]
 pub enum Role {
     Int,
@@ -13,69 +14,83 @@ pub enum Role {
     Shared,
     Lent,
     Ends,
-    Passes,
 }
 
-fn role_of(instr: Instr) -> Role
+impl Role {
+    // The outermost layer of what it makes of the type that stands before a slot.
+    pub fn shape(self, slot: usize) -> Shape
+        ensures layer { (text code : List ℕ) → shape_of text code result ≡ made text self (written text code slot) }
+        ensures inner { Inner 0 result }
+    {
+        let inner = ValueType::written(slot);
+        match self {
+            Role::Int => Shape::Int,
+            Role::Named(name) => Shape::Data(name),
+            Role::Boxed => Shape::Box(inner),
+            Role::Shared => Shape::Ref(inner),
+            Role::Lent => Shape::Mut(inner),
+            Role::Ends => Shape::Int,
+        }
+    }
+}
+
+// What an instruction makes of it; most let it be.
+fn role_of(instr: Instr) -> Option<Role>
     ensures { result ≡ role_of instr }
 {
     match instr {
-        Instr::Num(_) => Role::Passes,
-        Instr::Var(_) => Role::Passes,
-        Instr::Int => Role::Passes,
-        Instr::Op(_) => Role::Passes,
-        Instr::Make(_) => Role::Passes,
-        Instr::Call(_) => Role::Passes,
-        Instr::Arg => Role::Passes,
-        Instr::Apply => Role::Passes,
-        Instr::Box => Role::Passes,
-        Instr::Share(_) => Role::Passes,
-        Instr::Lend(_) => Role::Passes,
-        Instr::Load(_) => Role::Passes,
-        Instr::Get => Role::Passes,
-        Instr::Bind(_) => Role::Passes,
-        Instr::Assign(_) => Role::Passes,
-        Instr::Store(_) => Role::Passes,
-        Instr::Put => Role::Passes,
-        Instr::If => Role::Passes,
-        Instr::Else => Role::Passes,
-        Instr::EndIf => Role::Passes,
-        Instr::While => Role::Passes,
-        Instr::Do => Role::Passes,
-        Instr::EndWhile => Role::Passes,
-        Instr::Match(_, _) => Role::Passes,
-        Instr::Arm(_) => Role::Passes,
-        Instr::Part(_) => Role::Passes,
-        Instr::Body => Role::Passes,
-        Instr::EndArm => Role::Passes,
-        Instr::EndMatch => Role::Passes,
-        Instr::Open(_, _) => Role::Passes,
-        Instr::Inside(_, _) => Role::Passes,
-        Instr::Give => Role::Passes,
-        Instr::EndFn => Role::Passes,
-        Instr::TyInt => Role::Int,
-        Instr::TyData(name) => Role::Named(name),
-        Instr::TyBox => Role::Boxed,
-        Instr::TyRef => Role::Shared,
-        Instr::TyMut => Role::Lent,
-        Instr::Field => Role::Ends,
-        Instr::Ctor(_) => Role::Ends,
-        Instr::Data(_, _) => Role::Ends,
-        Instr::Param(_) => Role::Ends,
-        Instr::Fn(_) => Role::Ends,
+        Instr::Num(_) => None,
+        Instr::Var(_) => None,
+        Instr::Int => None,
+        Instr::Op(_) => None,
+        Instr::Make(_) => None,
+        Instr::Call(_) => None,
+        Instr::Arg => None,
+        Instr::Apply => None,
+        Instr::Box => None,
+        Instr::Share(_) => None,
+        Instr::Lend(_) => None,
+        Instr::Load(_) => None,
+        Instr::Get => None,
+        Instr::Bind(_) => None,
+        Instr::Assign(_) => None,
+        Instr::Store(_) => None,
+        Instr::Put => None,
+        Instr::If => None,
+        Instr::Else => None,
+        Instr::EndIf => None,
+        Instr::While => None,
+        Instr::Do => None,
+        Instr::EndWhile => None,
+        Instr::Match(_, _) => None,
+        Instr::Arm(_) => None,
+        Instr::Part(_) => None,
+        Instr::Body => None,
+        Instr::EndArm => None,
+        Instr::EndMatch => None,
+        Instr::Open(_, _) => None,
+        Instr::Inside(_, _) => None,
+        Instr::Give => None,
+        Instr::EndFn => None,
+        Instr::TyInt => Some(Role::Int),
+        Instr::TyData(name) => Some(Role::Named(name)),
+        Instr::TyBox => Some(Role::Boxed),
+        Instr::TyRef => Some(Role::Shared),
+        Instr::TyMut => Some(Role::Lent),
+        Instr::Field => Some(Role::Ends),
+        Instr::Ctor(_) => Some(Role::Ends),
+        Instr::Data(_, _) => Some(Role::Ends),
+        Instr::Param(_) => Some(Role::Ends),
+        Instr::Fn(_) => Some(Role::Ends),
     }
 }
 
 // The same of a slot of the code; behind its end nothing is done.
-pub fn role_at(code: &[u64], slot: usize) -> Role
+pub fn role_at(code: &[u64], slot: usize) -> Option<Role>
     ensures { result ≡ role_at code.now slot }
 {
-    if slot < code.len() / 3 {
-        match decode(code, slot) {
-            Some(instr) => role_of(instr),
-            None => Role::Passes,
-        }
-    } else {
-        Role::Passes
+    if slot >= code.len() / 3 {
+        return None;
     }
+    role_of(decode(code, slot)?)
 }

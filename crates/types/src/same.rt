@@ -3,8 +3,8 @@ ghost use Rattle.language.specs.Checks.{same_ty};
 ghost use Rattle.types.specs.Types.{type_of, shape_of, Stands};
 
 use crate::layer::shape;
-use crate::spelled::same_name;
 use crate::ty::{Shape, ValueType};
+use lexer::same_name;
 
 // How two types compare by their outermost layers: the same, different, or as two types within them.
 #[derive(Clone, Copy)]

@@ -10,7 +10,7 @@ loop-i-preserved c =
       record { datas = a.datas ∙ b.datas; ctors = a.ctors ∙ b.ctors; fields = a.fields ∙ b.fields; fns = a.fns ∙ b.fns; params = a.params ∙ b.params },
     )
 
-pub returns : goal.returns
-returns c =
+pub returns-clause-collected : goal.returns-clause-collected
+returns-clause-collected c =
     let e : c.loop-i.i ≡ c.args.size = omega arith in
-    record { collected = ended c.args.code.now c.args.size c.loop-i.i _ _ e c.loop-i.invariant.0; lengths = c.loop-i.invariant.1 }
+    ended c.args.code.now c.args.size c.loop-i.i _ _ e c.loop-i.invariant.0

@@ -7,5 +7,5 @@ use Rattle.tables.proofs.repeated.twice.Given as goal
 
 abbrev pub invariant-loop-i : goal.invariant-loop-i
 invariant-loop-i g l =
-    let f : ℕ → Lexeme = λ k. spelling l.text (g.R.Row.title (g.R.Row.kept l.words k)) in
+    let f : ℕ → Lexeme = λ k. spelling l.text (g.R.Row.title (g.R.Record.kept l.words k)) in
     (l.i-end ≡ l.rows.end) × (once_from f l.i l.rows.end ≡ no_twice (all_in f l.rows))

@@ -1,21 +1,11 @@
-use Rattle.std.proofs.Common.{◌+◌, ◌≤◌, refl, mul-le-mul_right, arith}
-use Rattle.tables.proofs.Index.{first_hit, first_miss, first_end}
+use Rattle.std.proofs.Common.{ℕ, Bool, refl, rules}
+use Rattle.std.proofs.lemmas.Iterator.{YieldsList-from_range}
+use Rattle.std.proofs.lemmas.Iterator.Search.{find_from_yields_List}
+use Rattle.tables.specs.Index.{is_spelled}
+use Rattle.tables.proofs.Search.{found}
 use Rattle.tables.proofs.table.find.Goals as goal
 
-pub loop-i-init : goal.loop-i-init
-loop-i-init g c = refl
-
-pub load-requires : goal.load-requires
-load-requires g c =
-    let h : c.loop-i.i + 1 ≤ c.args.rows.end = omega arith in
-    let m = mul-le-mul_right g.R.Row.width h in
-    omega arith
-
-pub returns-then-same_name : goal.returns-then-same_name
-returns-then-same_name g c = first_hit _ c.loop-i.i c.args.rows.end _ c.loop-i-test.true (let h = c.name.ensures in let k = c.load.ensures in cc) c.loop-i.invariant
-
-pub loop-i-preserved : goal.loop-i-preserved
-loop-i-preserved g c = first_miss _ c.loop-i.i c.args.rows.end _ c.loop-i-test.true (let h = c.name.ensures in let k = c.load.ensures in cc) c.loop-i.invariant
-
-pub returns : goal.returns
-returns g c = first_end _ c.loop-i.i c.args.rows.end _ c.loop-i-test.false c.loop-i.invariant
+pub returns-clause-is : goal.returns-clause-is
+returns-clause-is g c =
+    let p : ℕ → Bool = is_spelled c.args.text.now g.R.Row.title (g.R.Record.kept c.args.words.now) (g.K.Key.spelled c.args.text.now c.args.key) in
+    found p c.args.rows _ (find_from_yields_List p _ _ c.find.result c.find.ensures.ran (YieldsList-from_range _ _ _ refl refl) (λ x b q k. search rules))

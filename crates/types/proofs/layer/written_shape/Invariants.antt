@@ -4,6 +4,3 @@ use Rattle.types.proofs.layer.written_shape.Given as goal
 
 abbrev pub invariant-loop-k : goal.invariant-loop-k
 invariant-loop-k l = (text : List ℕ) → written text l.code l.k ≡ written text l.code l.slot
-
-abbrev pub decreases-loop-k : goal.decreases-loop-k
-decreases-loop-k l = l.k

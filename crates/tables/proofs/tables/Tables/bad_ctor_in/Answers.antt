@@ -1,14 +1,13 @@
-use Rattle.std.proofs.Common.{sym, arith}
+use Rattle.std.proofs.Common.{not, refl, rules}
+use Rattle.std.proofs.lemmas.Iterator.{YieldsList-from_range}
+use Rattle.std.proofs.lemmas.Iterator.Search.{find_from_yields_List}
 use Rattle.language.specs.Checks.{ok_ctor}
 use Rattle.tables.specs.Tables.{datas_in, the_ctor}
-use Rattle.tables.proofs.EachOf.{all_no, all_on, all_end}
+use Rattle.tables.proofs.Search.{fails}
 use Rattle.tables.proofs.tables.Tables.bad_ctor_in.Goals as goal
 
-pub returns-then-not-ctor_ok : goal.returns-then-not-ctor_ok
-returns-then-not-ctor_ok c = (all_no (ok_ctor (datas_in c.args.self)) (the_ctor c.args.self) c.loop-c.c _ _ c.loop-c-test.true (sym c.if-not-ctor_ok.ensures) c.loop-c.invariant.1, omega (arith, c.loop-c.invariant.0))
-
-pub loop-c-preserved : goal.loop-c-preserved
-loop-c-preserved c = (c.loop-c.invariant.0, all_on (ok_ctor (datas_in c.args.self)) (the_ctor c.args.self) c.loop-c.c _ _ c.loop-c-test.true (sym c.if-not-ctor_ok.ensures) c.loop-c.invariant.1)
-
 pub returns : goal.returns
-returns c = all_end (ok_ctor (datas_in c.args.self)) (the_ctor c.args.self) c.loop-c.c _ _ c.loop-c-test.false c.loop-c.invariant.1
+returns c =
+    let t = c.args.self in
+    let p = ok_ctor (datas_in t) in
+    fails p (the_ctor t) c.args.ctors _ (find_from_yields_List (λ k. not (p (the_ctor t k))) _ _ c.find.result c.find.ensures.ran (YieldsList-from_range _ _ _ refl refl) (λ x b q k. search rules))

@@ -1,25 +1,20 @@
-use Rattle.std.proofs.Common.{◌&&◌, leb, length, sym, ap, ◌∙◌, arith}
+use Rattle.std.proofs.Common.{List, sym, ap, ◌∙◌, leb, length, ◌&&◌, arith}
 use Rattle.language.specs.Base.{each_of}
-use Rattle.tables.specs.declared.rows.Declared.{Declared}
-use Rattle.tables.specs.Index.{all_in}
+use Rattle.language.specs.Syntax.{Ty}
 use Rattle.tables.specs.Known.{the_field}
 use Rattle.tables.specs.Rest.{ok_field}
 use Rattle.tables.specs.Tables.{datas_in}
-use Rattle.tables.proofs.EachOf.{few_yes, few_no}
+use Rattle.tables.proofs.EachOf.{few_yes, few_no, not_few}
 use Rattle.tables.proofs.tables.Tables.ctor_ok.Goals as goal
 
-pub returns-then-count-gt-MOST_FIELDS : goal.returns-then-count-gt-MOST_FIELDS
-returns-then-count-gt-MOST_FIELDS c =
-    let f = the_field c.args.self in
+pub returns-then-count-le-MOST_FIELDS : goal.returns-then-count-le-MOST_FIELDS
+returns-then-count-le-MOST_FIELDS c =
     let p = ok_field (datas_in c.args.self) in
-    let e = ap (λ (r : Declared). leb (length (all_in f r.parts)) 8 && each_of p (all_in f r.parts)) c.load.ensures in
     let n = c.count.ensures in
-    sym (sym e ∙ few_no f c.load.result.parts _ (omega arith))
+    c.fields_ok.ensures ∙ sym (ap (λ (ts : List Ty). leb (length ts) 8 && each_of p ts) c.fields-fields.ensures.is ∙ few_yes (the_field c.args.self) c.fields-fields.result _ (omega arith))
 
-pub returns : goal.returns
-returns c =
-    let f = the_field c.args.self in
+pub returns-else-count-le-MOST_FIELDS : goal.returns-else-count-le-MOST_FIELDS
+returns-else-count-le-MOST_FIELDS c =
     let p = ok_field (datas_in c.args.self) in
-    let e = ap (λ (r : Declared). leb (length (all_in f r.parts)) 8 && each_of p (all_in f r.parts)) c.load.ensures in
     let n = c.count.ensures in
-    c.fields_ok.ensures ∙ sym (few_yes f c.load.result.parts _ (omega arith)) ∙ e
+    not_few c.count.result c.if-count-le-MOST_FIELDS.false ∙ sym (ap (λ (ts : List Ty). leb (length ts) 8 && each_of p ts) c.fields-fields.ensures.is ∙ few_no (the_field c.args.self) c.fields-fields.result _ (omega arith))

@@ -1,15 +1,14 @@
-use Rattle.std.proofs.Common.{sym}
+use Rattle.std.proofs.Common.{refl, ◌∙◌, rules}
+use Rattle.std.proofs.lemmas.Iterator.{YieldsList-from_range}
+use Rattle.std.proofs.lemmas.Iterator.Search.{all_from_yields_List}
 use Rattle.tables.specs.Known.{the_field}
 use Rattle.tables.specs.Rest.{ok_field}
 use Rattle.tables.specs.Tables.{datas_in}
-use Rattle.tables.proofs.EachOf.{all_no, all_on, all_end}
+use Rattle.tables.proofs.Search.{all_pass}
 use Rattle.tables.proofs.tables.Tables.fields_ok.Goals as goal
 
-pub returns-then-not-field_ok : goal.returns-then-not-field_ok
-returns-then-not-field_ok c = sym (all_no (ok_field (datas_in c.args.self)) (the_field c.args.self) c.loop-j.j _ _ c.loop-j-test.true (sym c.if-not-field_ok.ensures) c.loop-j.invariant.1)
-
-pub loop-j-preserved : goal.loop-j-preserved
-loop-j-preserved c = (c.loop-j.invariant.0, all_on (ok_field (datas_in c.args.self)) (the_field c.args.self) c.loop-j.j _ _ c.loop-j-test.true (sym c.if-not-field_ok.ensures) c.loop-j.invariant.1)
-
 pub returns : goal.returns
-returns c = sym (all_end (ok_field (datas_in c.args.self)) (the_field c.args.self) c.loop-j.j _ _ c.loop-j-test.false c.loop-j.invariant.1)
+returns c =
+    let t = c.args.self in
+    let p = ok_field (datas_in t) in
+    all_from_yields_List (λ j. p (the_field t j)) _ _ _ c.all.ensures.ran (YieldsList-from_range _ _ _ refl refl) (λ x b q k. search rules) ∙ all_pass p (the_field t) c.args.fields

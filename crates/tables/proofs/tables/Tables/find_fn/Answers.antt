@@ -1,10 +1,10 @@
-use Rattle.tables.specs.Tables.{the_sig, spelled}
-use Rattle.tables.proofs.Index.{first_under}
+use Rattle.std.proofs.Common.{refl}
+use Rattle.tables.specs.Tables.{the_sig}
 use Rattle.tables.proofs.Look.{sig_is}
 use Rattle.tables.proofs.tables.Tables.find_fn.Goals as goal
 
-pub returns-in-Some : goal.returns-in-Some
-returns-in-Some c = (sig_is (the_sig c.args.self) (spelled c.args.self c.args.name) _ _ c.in-Some.ensures, first_under _ _ _ c.in-Some.ensures)
+pub returns-in_err-number : goal.returns-in_err-number
+returns-in_err-number g c = rw c.from_residual.ensures (sig_is (the_sig c.args.self) (g.K.Key.spelled c.args.self.text.now c.args.key) _ _ _ c.up_to-rows.ensures c.in_err-number.ensures.is)
 
-pub returns-in-None : goal.returns-in-None
-returns-in-None c = sig_is (the_sig c.args.self) (spelled c.args.self c.args.name) _ _ c.in-None.ensures
+pub returns : goal.returns
+returns g c = (sig_is (the_sig c.args.self) (g.K.Key.spelled c.args.self.text.now c.args.key) _ _ _ c.up_to-rows.ensures c.in_ok-number.ensures.is, refl)
