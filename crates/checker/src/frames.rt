@@ -55,21 +55,14 @@ fn access_in(number: u64) -> Access
 fn part_in(words: Tagged) -> Option<Entry>
     ensures { result ≡ part_in words.tag words.operand }
 {
-    if words.tag == 3 {
-        None
-    } else {
-        Some(Entry::from(words))
-    }
+    (words.tag != 3).then(|| Entry::from(words))
 }
 
 fn part_words(part: Option<Entry>) -> Tagged
     ensures tag { result.tag ≡ part_number part }
     ensures operand { result.operand ≡ part_operand part }
 {
-    match part {
-        None => Tagged::new(3, 0),
-        Some(entry) => Tagged::from(entry),
-    }
+    part.map_or(Tagged::new(3, 0), Tagged::from)
 }
 
 impl Frame {

@@ -1,8 +1,8 @@
 -- The join of several ways, written over their entries one by one.
-use Rattle.std.proofs.Common.{◌≡◌, ℕ, zero, suc, ◌+◌, ◌-◌, ◌*◌, ◌<◌, ◌≤◌, min, Bool, true, false, ◌||◌, T, eqb, ◌⊎◌, List, [], ◌∷◌, ◌++◌, length, get_or, drop, set, Some, None, Option, unwrap_or, sym, refl, ap, ◌∙◌, subst, ap₂, inl, inr, arith, eqb→eq, drop-cons, get_or-set_other, get_or-set_same}
-use Rattle.std.proofs.lemmas.List.{drop_all, set-get_or}
+use Rattle.std.proofs.Common.{◌≡◌, ℕ, zero, suc, ◌+◌, ◌-◌, ◌*◌, ◌<◌, ◌≤◌, min, Bool, true, false, ◌||◌, T, eqb, ◌⊎◌, List, [], ◌∷◌, ◌++◌, length, get_or, set, Some, None, Option, unwrap_or, sym, refl, ap, ◌∙◌, subst, ap₂, inl, inr, arith, eqb→eq, get_or-set_other, get_or-set_same}
+use Rattle.std.proofs.lemmas.List.{set-get_or}
 use Rattle.language.specs.Base.{choose}
-use Rattle.scope.specs.Log.{gone_at, Log, find, said, or_else, bit_of, entry_at, part, lives, gone_in, rewrite, ways, behind}
+use Rattle.scope.specs.Log.{gone_at, Log, find, or_else, bit_of, entry_at, part, lives, gone_in, rewrite, ways, behind}
 use Rattle.std.proofs.lemmas.Bool.{eqb-false}
 use Rattle.scope.proofs.LogWords.{find_said, part_same}
 
@@ -13,16 +13,6 @@ behind_is (a ∷ arms) l k = ap₂ ◌||◌ (find_said a l k) (behind_is arms l 
 pub value_or : (o : Option Bool) (d : Bool) → unwrap_or o d ≡ or_else o d
 value_or None d = refl
 value_or (Some b) d = refl
-
--- a loop over the ends
-pub behind_end : (ws : List ℕ) (from i k : ℕ) (es : List ℕ) (was z : Bool) → length es ≤ i → behind (ways ws from (drop i es)) k was ≡ z → false ≡ z
-behind_end ws from i k es was z h q = sym (ap (λ l. behind (ways ws from l) k was) (drop_all i es h)) ∙ q
-
-pub behind_yes : (ws : List ℕ) (from i k : ℕ) (es : List ℕ) (was z : Bool) → i < length es → or_else (said (part ws from (get_or es i 0 - from)) k) was ≡ true → behind (ways ws from (drop i es)) k was ≡ z → true ≡ z
-behind_yes ws from i k es was z h t q = sym (ap (λ l. behind (ways ws from l) k was) (drop-cons es i 0 h) ∙ ap (λ b. b || behind (ways ws (get_or es i 0) (drop (suc i) es)) k was) t) ∙ q
-
-pub behind_no : (ws : List ℕ) (from i k : ℕ) (es : List ℕ) (was z : Bool) → i < length es → or_else (said (part ws from (get_or es i 0 - from)) k) was ≡ false → behind (ways ws from (drop i es)) k was ≡ z → behind (ways ws (get_or es i 0) (drop (i + 1) es)) k was ≡ z
-behind_no ws from i k es was z h t q = let e : i + 1 ≡ suc i = omega arith in ap (λ n. behind (ways ws (get_or es i 0) (drop n es)) k was) e ∙ sym (ap (λ l. behind (ways ws from l) k was) (drop-cons es i 0 h) ∙ ap (λ b. b || behind (ways ws (get_or es i 0) (drop (suc i) es)) k was) t) ∙ q
 
 -- words that are the same below a height
 pub lives_same : (ws us gs : List ℕ) (g t b : ℕ) → 2 * t ≤ b → ((j : ℕ) → j < b → get_or ws j 0 ≡ get_or us j 0) → lives ws gs g t ≡ lives us gs g t
