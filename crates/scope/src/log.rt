@@ -92,6 +92,7 @@ fn gone_behind(log: &[u64], from: usize, ends: &[u64], place: Place, was: bool) 
     ensures { result ≡ behind (ways log.now from ends.now) place.0 was }
 {
     let mut start = from;
+    // No `any`: each way begins where the last one ended.
     for end in ends {
         let end = *end as usize;
         if said(log, start, end, place).unwrap_or(was) {
