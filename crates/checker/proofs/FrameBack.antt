@@ -1,5 +1,6 @@
 -- A frame that is written is the frame that is read.
-use Rattle.std.proofs.Common.{◌≡◌, ℕ, ◌+◌, ◌*◌, ◌<◌, ◌≤◌, Bool, true, false, eqb, List, length, get_or, Some, None, Option, refl, ap, ◌∙◌, ap₂, arith}
+use Rattle.std.proofs.Common.{◌≡◌, ℕ, ◌+◌, ◌*◌, ◌<◌, ◌≤◌, ◌≢◌, inl, inr, Bool, true, false, eqb, List, length, get_or, Some, None, Option, refl, ap, ◌∙◌, ap₂, arith}
+use Rattle.std.proofs.lemmas.Bool.{cases_lt}
 use Rattle.code.specs.declared.instr.Access.{Access}
 use Rattle.code.specs.declared.instr.Access.TheVariants.{Take, View, Edit}
 use Rattle.types.specs.declared.ty.Base.{Base}
@@ -50,8 +51,15 @@ ten_same {a} {b} {c} {d} {e} {f} {g} {h} {i} {j} {a'} {b'} {c'} {d'} {e'} {f'} {
 pub frame_this : (ws : List ℕ) (k : ℕ) (f : Frame) → ((j : ℕ) → j < 10 → get_or ws (10 * k + j) 0 ≡ get_or (numbers f) j 0) → frame_at ws k ≡ f
 frame_this ws k f h = ten_same (let e : 10 * k ≡ 10 * k + 0 = omega arith in ap (λ j. get_or ws j 0) e ∙ h 0 (omega arith)) (h 1 (omega arith)) (h 2 (omega arith)) (h 3 (omega arith)) (h 4 (omega arith)) (h 5 (omega arith)) (h 6 (omega arith)) (h 7 (omega arith)) (h 8 (omega arith)) (h 9 (omega arith)) ∙ frame_back f
 
-pub frame_same : (ws us : List ℕ) (k b : ℕ) → 10 * k + 10 ≤ b → ((j : ℕ) → j < b → get_or ws j 0 ≡ get_or us j 0) → frame_at ws k ≡ frame_at us k
-frame_same ws us k b h s = ten_same (s (10 * k) (omega arith)) (s (10 * k + 1) (omega arith)) (s (10 * k + 2) (omega arith)) (s (10 * k + 3) (omega arith)) (s (10 * k + 4) (omega arith)) (s (10 * k + 5) (omega arith)) (s (10 * k + 6) (omega arith)) (s (10 * k + 7) (omega arith)) (s (10 * k + 8) (omega arith)) (s (10 * k + 9) (omega arith))
+frame_same : (ws us : List ℕ) (k : ℕ) → ((j : ℕ) → 10 * k ≤ j → j < 10 * k + 10 → get_or ws j 0 ≡ get_or us j 0) → frame_at ws k ≡ frame_at us k
+frame_same ws us k s = ten_same (s (10 * k) (omega arith) (omega arith)) (s (10 * k + 1) (omega arith) (omega arith)) (s (10 * k + 2) (omega arith) (omega arith)) (s (10 * k + 3) (omega arith) (omega arith)) (s (10 * k + 4) (omega arith) (omega arith)) (s (10 * k + 5) (omega arith) (omega arith)) (s (10 * k + 6) (omega arith) (omega arith)) (s (10 * k + 7) (omega arith) (omega arith)) (s (10 * k + 8) (omega arith) (omega arith)) (s (10 * k + 9) (omega arith) (omega arith))
+
+-- another frame than the one that is written
+pub frame_other : (ws us : List ℕ) (k n : ℕ) → k ≢ n → ((j : ℕ) → j < 10 * n → get_or ws j 0 ≡ get_or us j 0) → ((j : ℕ) → 10 * n + 10 ≤ j → get_or ws j 0 ≡ get_or us j 0) → frame_at ws k ≡ frame_at us k
+frame_other ws us k n h below above = elim (cases_lt k n) [
+  | inl l ↦ frame_same ws us k (λ j p q. below j (omega arith))
+  | inr g ↦ frame_same ws us k (λ j p q. above j (let m : n < k = omega arith in omega arith))
+]
 
 pub length_numbers : (f : Frame) → length (numbers f) ≡ 10
 length_numbers (ACall c) = refl

@@ -4,8 +4,7 @@ use Rattle.language.specs.Base.{choose}
 use Rattle.code.specs.declared.instr.Access.{Access}
 use Rattle.code.specs.declared.instr.Access.TheVariants.{Take, View, Edit}
 use Rattle.scope.specs.declared.loans.Entry.{Entry}
-use Rattle.scope.specs.Loans.{entry_in, operand_of}
-use Rattle.scope.specs.declared.loans.Entry.TheVariants.{Shared, Alone, Via}
+use Rattle.scope.specs.Loans.{entry_in, entry_number, operand_of}
 use Rattle.scope.specs.Log.{bit_of}
 use Rattle.scope.specs.Slots.{base_in, base_number, base_operand}
 use Rattle.checker.specs.declared.frames.Call.{Call}
@@ -23,11 +22,6 @@ access_number Edit = 2
 
 abbrev pub part_in : ℕ → ℕ → Option Entry
 part_in t k = choose (t == 3) None (Some (entry_in t k))
-
-abbrev pub entry_number : Entry → ℕ
-entry_number (Shared x) = 0
-entry_number (Alone x) = 1
-entry_number (Via p) = 2
 
 abbrev pub part_number : Option Entry → ℕ
 part_number None = 3

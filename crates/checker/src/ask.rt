@@ -1,4 +1,4 @@
-ghost use Rattle.std.specs.Prelude.{◌≡◌, ℕ, ◌+◌, ◌*◌, ◌<◌, ◌≤◌, [], ◌++◌, length};
+ghost use Rattle.std.specs.Prelude.{◌≡◌, ℕ, ◌+◌, ◌*◌, ◌<◌, ◌≤◌, [], ◌++◌, length, not};
 ghost use Rattle.language.specs.Base.{some_of};
 ghost use Rattle.lexer.specs.Spelling.{spelling};
 ghost use Rattle.scope.specs.Loans.{asks, leaves};
@@ -11,6 +11,7 @@ ghost use Rattle.checker.specs.Outcome.{Holds};
 
 use crate::frames::Frame;
 use crate::state::{Rule, Source, State, Words};
+use code::Record;
 use lexer::Name;
 use scope::loans::{Asked, is_lent};
 use scope::log::{Place, is_gone};
@@ -31,9 +32,7 @@ fn is_held(
     ensures { result ≡ some_of (asks asked (spelling text.now name)) (leaves (held_in text.now args.now frames.now count base)) }
 {
     let mut top = base;
-    let mut n = count;
-    while n > 0 {
-        n -= 1;
+    for n in (0..count).rev() {
         match Frame::load(frames, n) {
             Frame::Call(call) => {
                 if is_lent(text, args, call.base, top, name, asked) {
@@ -104,15 +103,11 @@ pub fn there(source: &Source<'_>, words: &Words<'_>, at: &State, name: Name) -> 
     ensures is { (d : Decls) (s : State2) → Stands d (lent source.now words.now) at.now s → There source.now.text.now source.now.code.now words.now.names.now at.now.names (spelling source.now.text.now name) (there2 (Scope s) (live s) (spelling source.now.text.now name)) result }
     ensures within { Low at.now.names result }
 {
-    match seek(source.text, words.names, at.names, name) {
-        None => Err(Rule::NotThere),
-        Some(place) => {
-            if is_gone(words.log, at.log, words.gaps, at.gaps, place) {
-                return Err(Rule::NotThere);
-            }
-            Ok(place)
-        }
+    let place = seek(source.text, words.names, at.names, name).ok_or(Rule::NotThere)?;
+    if is_gone(words.log, at.log, words.gaps, at.gaps, place) {
+        return Err(Rule::NotThere);
     }
+    Ok(place)
 }
 
 // The place of a name that's in scope, be it gone or not.
@@ -126,10 +121,7 @@ pub fn place_of(
     ensures is { (d : Decls) (s : State2) → Stands d (lent source.now words.now) at.now s → There source.now.text.now source.now.code.now words.now.names.now at.now.names (spelling source.now.text.now name) (Seek (Scope s) (spelling source.now.text.now name)) result }
     ensures within { Low at.now.names result }
 {
-    match seek(source.text, words.names, at.names, name) {
-        Some(place) => Ok(place),
-        None => Err(Rule::NotThere),
-    }
+    seek(source.text, words.names, at.names, name).ok_or(Rule::NotThere)
 }
 
 // The type of the name at a place.
@@ -137,7 +129,14 @@ pub fn type_at(words: &Words<'_>, place: Place) -> ValueType
     requires { 7 * place.0 + 6 < length words.now.names.now }
     ensures { result ≡ (variable_at words.now.names.now place.0).ty }
 {
-    Variable::load(words.names, place).ty
+    Variable::load(words.names, place.0).ty
+}
+
+// Refuses, by that rule, a name that somebody has a loan of.
+fn refused_if(lent: bool, rule: Rule) -> Result<(), Rule>
+    ensures { Holds (not lent) result }
+{
+    if lent { Err(rule) } else { Ok(()) }
 }
 
 // Refuses what is not readable: somebody has the name alone.
@@ -145,10 +144,8 @@ pub fn readable(source: &Source<'_>, words: &Words<'_>, at: &State, name: Name) 
     requires { Room (lent source.now words.now) at.now }
     ensures { (d : Decls) (s : State2) → Stands d (lent source.now words.now) at.now s → Holds (readable2 (held2 s.frames) (Scope s) (spelling source.now.text.now name)) result }
 {
-    if is_lent_now(source, words, at, name, Asked::Alone) {
-        return Err(Rule::NotReadable);
-    }
-    Ok(())
+    let lent = is_lent_now(source, words, at, name, Asked::Alone);
+    refused_if(lent, Rule::NotReadable)
 }
 
 // Refuses what is not free: somebody has a loan of the name.
@@ -156,10 +153,8 @@ pub fn free(source: &Source<'_>, words: &Words<'_>, at: &State, name: Name) -> R
     requires { Room (lent source.now words.now) at.now }
     ensures { (d : Decls) (s : State2) → Stands d (lent source.now words.now) at.now s → Holds (free2 (held2 s.frames) (Scope s) (spelling source.now.text.now name)) result }
 {
-    if is_lent_now(source, words, at, name, Asked::Any) {
-        return Err(Rule::NotFree);
-    }
-    Ok(())
+    let lent = is_lent_now(source, words, at, name, Asked::Any);
+    refused_if(lent, Rule::NotFree)
 }
 
 // The same in a statement, where no argument is under way.
@@ -172,10 +167,8 @@ pub fn readable_by_names(
     requires { Room (lent source.now words.now) at.now }
     ensures { (d : Decls) (s : State2) → Stands d (lent source.now words.now) at.now s → Holds (readable2 [] (Scope s) (spelling source.now.text.now name)) result }
 {
-    if is_lent_by_names(source, words, at, name, Asked::Alone) {
-        return Err(Rule::NotReadable);
-    }
-    Ok(())
+    let lent = is_lent_by_names(source, words, at, name, Asked::Alone);
+    refused_if(lent, Rule::NotReadable)
 }
 
 pub fn free_by_names(
@@ -187,8 +180,6 @@ pub fn free_by_names(
     requires { Room (lent source.now words.now) at.now }
     ensures { (d : Decls) (s : State2) → Stands d (lent source.now words.now) at.now s → Holds (free2 [] (Scope s) (spelling source.now.text.now name)) result }
 {
-    if is_lent_by_names(source, words, at, name, Asked::Any) {
-        return Err(Rule::NotFree);
-    }
-    Ok(())
+    let lent = is_lent_by_names(source, words, at, name, Asked::Any);
+    refused_if(lent, Rule::NotFree)
 }

@@ -14,7 +14,7 @@ ghost use Rattle.checker.specs.Stands.{Decls, lent, Stands, Room, Steps};
 
 use crate::ask::{free_by_names, place_of, there, type_at};
 use crate::state::{Rule, Source, State, Words};
-use crate::write::{int, set_gone, set_value};
+use crate::write::{set_gone, set_value};
 use lexer::Name;
 use scope::log::Place;
 use types::{Shape, ValueType, is_owned, same_type, shape};
@@ -31,7 +31,7 @@ fn put_back(
     ensures { (d : Decls) (s : State2) (f : Found) → length f.older ≡ place.0 → Stands d (lent source.now words.old) at.old s → Steps d (lent source.now words.new) at.new (only_if (free2 [] (Scope s) (spelling source.now.text.now name)) (Just (rest s.names (gone_at (length f.older) false ∷ s.log) s.frames))) result }
 {
     free_by_names(source, words, at, name)?;
-    set_value(at, int());
+    set_value(at, ValueType::int());
     set_gone(words, at, place, false);
     Ok(())
 }
@@ -63,7 +63,7 @@ fn let_go(source: &Source<'_>, words: &Words<'_>, at: &mut State, name: Name) ->
     ensures { (d : Decls) (s : State2) → Stands d (lent source.now words.now) at.old s → Steps d (lent source.now words.now) at.new (only_if (free2 [] (Scope s) (spelling source.now.text.now name)) (Just (rest s.names s.log s.frames))) result }
 {
     free_by_names(source, words, at, name)?;
-    set_value(at, int());
+    set_value(at, ValueType::int());
     Ok(())
 }
 

@@ -8,7 +8,8 @@ ghost use Rattle.checker.specs.Stands.{Decls, lent, lent_in, Stands, Steps, Left
 use crate::frames::Frame;
 use crate::state::{Rule, Source, State, Words};
 use crate::value::is_int;
-use crate::write::int;
+use code::Record;
+use types::ValueType;
 
 // A frame more; the value is let go.
 fn begin(words: &mut Words<'_>, at: &mut State, frame: Frame)
@@ -18,7 +19,7 @@ fn begin(words: &mut Words<'_>, at: &mut State, frame: Frame)
     frame.store(words.frames, at.frames);
     at.frames += 1;
     at.args = at.base;
-    at.ty = int();
+    at.ty = ValueType::int();
 }
 
 // Behind the test of an if.

@@ -3,14 +3,15 @@ ghost use Rattle.scope.specs.Loans.{slice, loan_at};
 ghost use Rattle.checker.specs.Stands.{lent_in, with_loans};
 
 use crate::state::Words;
-use scope::loans::{Entry, load_loan, store_loan};
+use code::Record;
+use scope::loans::Entry;
 
 // An entry of an argument or of the value.
 fn arg_at(words: &Words<'_>, at: usize) -> Entry
     requires { 2 * at + 1 < length words.now.args.now }
     ensures { result ≡ loan_at words.now.args.now at }
 {
-    load_loan(words.args, at)
+    Entry::load(words.args, at)
 }
 
 // Writes an entry of a name.
@@ -21,7 +22,7 @@ fn put_loan(words: &mut Words<'_>, at: usize, entry: Entry)
     ensures long { length words.new.loans.now ≡ length words.old.loans.now }
     ensures kept { (text code : List ℕ) → lent_in text code words.new ≡ with_loans (lent_in text code words.old) words.new.loans.now }
 {
-    store_loan(words.loans, at, entry);
+    entry.store(words.loans, at);
 }
 
 // The value's entries, once more as those of a name.
@@ -31,6 +32,7 @@ pub fn copy_loans(words: &mut Words<'_>, base: usize, to: usize, count: usize)
     ensures below { (text : List ℕ) (from n : ℕ) → from + n ≤ to → slice text words.new.loans.now from n ≡ slice text words.old.loans.now from n }
     ensures kept { (text code : List ℕ) → lent_in text code words.new ≡ with_loans (lent_in text code words.old) words.new.loans.now }
 {
+    // Entry by entry: that two fields of the words go to one call, as in copy_from_slice, gets no proof.
     for i in 0..count {
         let entry = arg_at(words, base + i);
         put_loan(words, to + i, entry);

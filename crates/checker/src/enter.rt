@@ -10,20 +10,22 @@ ghost use Rattle.checker.specs.Outcome.{Holds};
 
 use crate::copy::copy_loans;
 use crate::state::{Rule, Source, State, Words};
-use crate::write::{int, set_gone};
+use crate::write::set_gone;
+use code::Record;
 use lexer::Name;
 use scope::log::Place;
 use scope::names::{Variable, seek};
+use types::ValueType;
 
 // Refuses a name that's in scope already.
 pub fn fresh(source: &Source<'_>, words: &Words<'_>, at: &State, name: Name) -> Result<(), Rule>
     requires { Room (lent source.now words.now) at.now }
     ensures { (d : Decls) (s : State2) → Stands d (lent source.now words.now) at.now s → Holds (fresh2 (Scope s) (spelling source.now.text.now name)) result }
 {
-    match seek(source.text, words.names, at.names, name) {
-        None => Ok(()),
-        Some(_known) => Err(Rule::NotNew),
+    if seek(source.text, words.names, at.names, name).is_some() {
+        return Err(Rule::NotNew);
     }
+    Ok(())
 }
 
 // A name more, which takes the value and its entries. `of_caller`: whether all its loans are of what the caller lent.
@@ -32,7 +34,6 @@ fn add_name(words: &mut Words<'_>, at: &mut State, name: Name, of_caller: bool)
     ensures stands { (d : Decls) (text code : List ℕ) (s : State2) → Stands d (lent_in text code words.old) at.old s → Stands d (lent_in text code words.new) at.new (rest (slot_of (spelling text name) s.ty s.ents ∷ s.names) s.log s.frames) }
     ensures log { (at.new.log ≡ at.old.log) × (words.new.log.now ≡ words.old.log.now) }
 {
-    let place = Place(at.names);
     let variable = Variable {
         name,
         ty: at.ty,
@@ -41,11 +42,11 @@ fn add_name(words: &mut Words<'_>, at: &mut State, name: Name, of_caller: bool)
     };
     let count = at.args - at.base;
     copy_loans(words, at.base, at.loans, count);
-    variable.store(words.names, place);
+    variable.store(words.names, at.names);
     at.names += 1;
     at.loans += count;
     at.args = at.base;
-    at.ty = int();
+    at.ty = ValueType::int();
 }
 
 // A new name: an entry of the log says that it's there.

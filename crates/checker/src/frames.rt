@@ -1,12 +1,10 @@
-ghost use Rattle.std.specs.Prelude.{◌≡◌, ℕ, ◌+◌, ◌*◌, ◌<◌, ◌≤◌, length};
-ghost use Rattle.checker.specs.FrameWords.{frame_at, call_at, match_at, numbers, access_in, access_number, part_in, part_number, part_operand};
+ghost use Rattle.std.specs.Prelude.{◌≡◌, ℕ, ◌+◌, ◌*◌, ◌<◌, length};
+ghost use Rattle.checker.specs.FrameWords.{frame_at, call_at, match_at, numbers, access_in, part_in, part_number, part_operand};
 
-use code::Access;
-use lexer::Name;
+use code::{Access, Record};
 use scope::loans::Entry;
-use scope::log::{Place, bit};
-use scope::names::{base_in, base_number, base_operand};
-use scope::words::write;
+use scope::log::bit;
+use scope::words::{Tagged, write};
 use types::Base;
 
 // A call under way: whether its types are a function's parameters or a constructor's fields, and which are still to come; what it
@@ -46,65 +44,108 @@ pub enum Frame {
     Match(Match),
 }
 
+// Any number that is none of an access is read as the last.
 fn access_in(number: u64) -> Access
     ensures { result ≡ access_in number }
 {
-    match number {
-        0 => Access::Take,
-        1 => Access::View,
-        _ => Access::Edit,
-    }
+    Access::try_from(number).unwrap_or(Access::Edit)
 }
 
-fn access_number(access: Access) -> u64
-    ensures { result ≡ access_number access }
+// No entry has the tag 3.
+fn part_in(words: Tagged) -> Option<Entry>
+    ensures { result ≡ part_in words.tag words.operand }
 {
-    match access {
-        Access::Take => 0,
-        Access::View => 1,
-        Access::Edit => 2,
-    }
+    (words.tag != 3).then(|| Entry::from(words))
 }
 
-fn part_in(number: u64, operand: u64) -> Option<Entry>
-    ensures { result ≡ part_in number operand }
+fn part_words(part: Option<Entry>) -> Tagged
+    ensures tag { result.tag ≡ part_number part }
+    ensures operand { result.operand ≡ part_operand part }
 {
-    match number {
-        0 => Some(Entry::Shared(Name(operand as usize))),
-        1 => Some(Entry::Alone(Name(operand as usize))),
-        3 => None,
-        _ => Some(Entry::Via(Place(operand as usize))),
-    }
-}
-
-fn part_number(part: Option<Entry>) -> u64
-    ensures { result ≡ part_number part }
-{
-    match part {
-        None => 3,
-        Some(Entry::Shared(_)) => 0,
-        Some(Entry::Alone(_)) => 1,
-        Some(Entry::Via(_)) => 2,
-    }
-}
-
-fn part_operand(part: Option<Entry>) -> u64
-    ensures { result ≡ part_operand part }
-{
-    match part {
-        None => 0,
-        Some(Entry::Shared(name)) => name.0 as u64,
-        Some(Entry::Alone(name)) => name.0 as u64,
-        Some(Entry::Via(place)) => place.0 as u64,
-    }
+    part.map_or(Tagged::new(3, 0), Tagged::from)
 }
 
 impl Frame {
-    // The frame with a number.
-    pub fn load(words: &[u64], number: usize) -> Frame
+    fn call(words: &[u64], number: usize) -> Call
         requires { 10 * number + 9 < length words.now }
-        ensures { result ≡ frame_at words.now number }
+        ensures { result ≡ call_at words.now number }
     {
+        let i = 10 * number;
+        Call {
+            params: words[i + 1] == 1,
+            next: words[i + 2] as usize,
+            end: words[i + 3] as usize,
+            makes: Base::from(Tagged::new(words[i + 4], words[i + 5])),
+            base: words[i + 6] as usize,
+        }
+    }
+
+    fn matching(words: &[u64], number: usize) -> Match
+        requires { 10 * number + 9 < length words.now }
+        ensures { result ≡ match_at words.now number }
+    {
+        let i = 10 * number;
+        Match {
+            names: words[i + 1] as usize,
+            access: access_in(words[i + 2]),
+            part: part_in(Tagged::new(words[i + 3], words[i + 4])),
+            data: words[i + 5] as usize,
+            seen: words[i + 6] as usize,
+            ends: words[i + 7] as usize,
+            next: words[i + 8] as usize,
+            end: words[i + 9] as usize,
+        }
+    }
+
+    fn numbers(self) -> [u64; 10]
+        ensures { result ≡ numbers self }
+    {
+        match self {
+            Frame::Call(c) => {
+                let makes = Tagged::from(c.makes);
+                [
+                    0,
+                    bit(c.params),
+                    c.next as u64,
+                    c.end as u64,
+                    makes.tag,
+                    makes.operand,
+                    c.base as u64,
+                    0,
+                    0,
+                    0,
+                ]
+            }
+            Frame::Then(a, b) => [1, a as u64, b as u64, 0, 0, 0, 0, 0, 0, 0],
+            Frame::Else(a) => [2, a as u64, 0, 0, 0, 0, 0, 0, 0, 0],
+            Frame::Test(a, b) => [3, a as u64, b as u64, 0, 0, 0, 0, 0, 0, 0],
+            Frame::Loop(a, b, c, d) => [4, a as u64, b as u64, c as u64, d as u64, 0, 0, 0, 0, 0],
+            Frame::Match(m) => {
+                let part = part_words(m.part);
+                [
+                    5,
+                    m.names as u64,
+                    u64::from(m.access),
+                    part.tag,
+                    part.operand,
+                    m.data as u64,
+                    m.seen as u64,
+                    m.ends as u64,
+                    m.next as u64,
+                    m.end as u64,
+                ]
+            }
+        }
+    }
+}
+
+impl Record for Frame {
+    ghost width = { 10 };
+
+    ghost kept = { frame_at };
+
+    // The frame with a number.
+    fn load(words: &[u64], number: usize) -> Frame {
         let i = 10 * number;
         let a = words[i + 1] as usize;
         let b = words[i + 2] as usize;
@@ -118,78 +159,8 @@ impl Frame {
         }
     }
 
-    fn call(words: &[u64], number: usize) -> Call
-        requires { 10 * number + 9 < length words.now }
-        ensures { result ≡ call_at words.now number }
-    {
-        let i = 10 * number;
-        Call {
-            params: words[i + 1] == 1,
-            next: words[i + 2] as usize,
-            end: words[i + 3] as usize,
-            makes: base_in(words[i + 4], words[i + 5]),
-            base: words[i + 6] as usize,
-        }
-    }
-
-    fn matching(words: &[u64], number: usize) -> Match
-        requires { 10 * number + 9 < length words.now }
-        ensures { result ≡ match_at words.now number }
-    {
-        let i = 10 * number;
-        Match {
-            names: words[i + 1] as usize,
-            access: access_in(words[i + 2]),
-            part: part_in(words[i + 3], words[i + 4]),
-            data: words[i + 5] as usize,
-            seen: words[i + 6] as usize,
-            ends: words[i + 7] as usize,
-            next: words[i + 8] as usize,
-            end: words[i + 9] as usize,
-        }
-    }
-
-    fn numbers(self) -> [u64; 10]
-        ensures { result ≡ numbers self }
-    {
-        match self {
-            Frame::Call(c) => [
-                0,
-                bit(c.params),
-                c.next as u64,
-                c.end as u64,
-                base_number(c.makes),
-                base_operand(c.makes),
-                c.base as u64,
-                0,
-                0,
-                0,
-            ],
-            Frame::Then(a, b) => [1, a as u64, b as u64, 0, 0, 0, 0, 0, 0, 0],
-            Frame::Else(a) => [2, a as u64, 0, 0, 0, 0, 0, 0, 0, 0],
-            Frame::Test(a, b) => [3, a as u64, b as u64, 0, 0, 0, 0, 0, 0, 0],
-            Frame::Loop(a, b, c, d) => [4, a as u64, b as u64, c as u64, d as u64, 0, 0, 0, 0, 0],
-            Frame::Match(m) => [
-                5,
-                m.names as u64,
-                access_number(m.access),
-                part_number(m.part),
-                part_operand(m.part),
-                m.data as u64,
-                m.seen as u64,
-                m.ends as u64,
-                m.next as u64,
-                m.end as u64,
-            ],
-        }
-    }
-
-    // Writes the frame with a number; those below stay.
-    pub fn store(self, words: &mut [u64], number: usize)
-        requires { 10 * number + 9 < length words.old }
-        ensures this { frame_at words.new number ≡ self }
-        ensures below { (k : ℕ) → k < number → frame_at words.new k ≡ frame_at words.old k }
-    {
+    // Writes the frame with a number; the others stay.
+    fn store(self, words: &mut [u64], number: usize) {
         let values = self.numbers();
         write(words, 10 * number, &values);
     }

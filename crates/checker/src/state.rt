@@ -7,7 +7,8 @@ pub struct Source<'a> {
 }
 
 // The words that are lent for one function's check: names in scope, the entries of their loans, those of arguments and of the value, the
-// log of moves, its gaps, frames, and for matches the constructors seen and where arms ended.
+// log of moves, its gaps, frames, and for matches the constructors seen and where arms ended. They go from function to function beside
+// the source and the state: the checker works in lent words, keeps all heights in a plain struct, and takes the words as a parameter.
 pub struct Words<'a> {
     pub names: &'a mut [u64],
     pub loans: &'a mut [u64],

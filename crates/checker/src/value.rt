@@ -16,7 +16,7 @@ ghost use Rattle.checker.specs.Stands.{Decls, lent, Stands, Room, Steps, Left};
 
 use crate::ask::{free, readable, there, type_at};
 use crate::state::{Rule, Source, State, Words};
-use crate::write::{int, set_gone, set_lent_value, set_value};
+use crate::write::{set_gone, set_lent_value, set_value};
 use lexer::Name;
 use scope::loans::Entry;
 use scope::log::Place;
@@ -26,20 +26,14 @@ use types::{Outer, Shape, ValueType, behind, boxed, is_owned, shape};
 pub fn is_int(code: &[u64], ty: ValueType) -> bool
     ensures { (text : List ℕ) → result ≡ same_ty (type_of text code.now ty) Int }
 {
-    match shape(code, ty) {
-        Shape::Int => true,
-        Shape::Data(_) => false,
-        Shape::Box(_) => false,
-        Shape::Ref(_) => false,
-        Shape::Mut(_) => false,
-    }
+    matches!(shape(code, ty), Shape::Int)
 }
 
 // A number, or one that's read.
 pub fn number(source: &Source<'_>, words: &Words<'_>, at: &mut State)
     ensures { (d : Decls) (p : Ctx) (s : State2) (n : ℕ) → Stands d (lent source.now words.now) at.old s → Left d (lent source.now words.now) at.new (exec2 p (i_num n) s) }
 {
-    set_value(at, int());
+    set_value(at, ValueType::int());
 }
 
 // A number is used: as an operand, or shown.
@@ -49,7 +43,7 @@ pub fn use_number(source: &Source<'_>, words: &Words<'_>, at: &mut State) -> Res
     if !is_int(source.code, at.ty) {
         return Err(Rule::NotInt);
     }
-    set_value(at, int());
+    set_value(at, ValueType::int());
     Ok(())
 }
 
@@ -72,7 +66,7 @@ fn copied(source: &Source<'_>, words: &Words<'_>, at: &mut State, name: Name) ->
     ensures { (d : Decls) (s : State2) (f : Found) → f.slot.name ≡ spelling source.now.text.now name → Stands d (lent source.now words.now) at.old s → Steps d (lent source.now words.now) at.new (value2 s f Int) result }
 {
     readable(source, words, at, name)?;
-    set_value(at, int());
+    set_value(at, ValueType::int());
     Ok(())
 }
 
@@ -243,6 +237,6 @@ pub fn load(source: &Source<'_>, words: &Words<'_>, at: &mut State, name: Name) 
         return Err(Rule::NotAReference);
     }
     readable(source, words, at, name)?;
-    set_value(at, int());
+    set_value(at, ValueType::int());
     Ok(())
 }

@@ -1,5 +1,5 @@
 ghost use Rattle.std.specs.Prelude.{◌≡◌, ℕ, ◌+◌, ◌-◌, ◌*◌, ◌<◌, ◌≤◌, List, [], ◌∷◌, length};
-ghost use Rattle.language.specs.Syntax.{Ty, int as Int};
+ghost use Rattle.language.specs.Syntax.{Ty};
 ghost use Rattle.types.specs.Types.{type_of};
 ghost use Rattle.scope.specs.Log.{gone_at};
 ghost use Rattle.scope.specs.Loans.{ent_of};
@@ -8,9 +8,10 @@ ghost use Rattle.checker.specs.Machine.{val};
 ghost use Rattle.checker.specs.Stands.{Decls, Lent, lent_in, Stands, Room};
 
 use crate::state::{State, Words};
-use scope::loans::{Entry, store_loan};
+use code::Record;
+use scope::loans::Entry;
 use scope::log::{Place, push};
-use types::{Base, Outer, ValueType};
+use types::ValueType;
 
 // A value of a type, that has no loans.
 pub fn set_value(at: &mut State, ty: ValueType)
@@ -27,7 +28,7 @@ pub fn set_lent_value(words: &mut Words<'_>, at: &mut State, ty: ValueType, entr
     requires { 2 * at.old.base + 1 < length words.old.args.now }
     ensures { (d : Decls) (text code : List ℕ) (s : State2) (t : Ty) → type_of text code ty ≡ t → Stands d (lent_in text code words.old) at.old s → Stands d (lent_in text code words.new) at.new (val s t (ent_of text entry ∷ [])) }
 {
-    store_loan(words.args, at.base, entry);
+    entry.store(words.args, at.base);
     at.args = at.base + 1;
     at.ty = ty;
 }
@@ -39,16 +40,4 @@ pub fn set_gone(words: &mut Words<'_>, at: &mut State, place: Place, gone: bool)
     ensures height { at.new.log ≡ at.old.log + 1 }
 {
     at.log = push(words.log, at.log, place, gone);
-}
-
-// The type of numbers.
-pub fn int() -> ValueType
-    ensures is { (text code : List ℕ) → type_of text code result ≡ Int }
-    ensures boxes { result.boxes ≡ 0 }
-{
-    ValueType {
-        outer: Outer::Plain,
-        boxes: 0,
-        base: Base::Number,
-    }
 }

@@ -1,9 +1,9 @@
 -- The join of several ways, written over their entries one by one.
-use Rattle.std.proofs.Common.{◌≡◌, ℕ, zero, suc, ◌+◌, ◌-◌, ◌*◌, ◌<◌, ◌≤◌, min, Bool, true, false, ◌||◌, T, eqb, ◌⊎◌, List, [], ◌∷◌, ◌++◌, length, get_or, drop, set, Some, None, Option, unwrap_or, sym, refl, ap, ◌∙◌, subst, ap₂, inl, inr, arith, eqb→eq, drop-cons, get_or-set_other, get_or-set_same}
-use Rattle.std.proofs.lemmas.List.{drop_all}
+use Rattle.std.proofs.Common.{◌≡◌, ℕ, zero, suc, ◌+◌, ◌-◌, ◌*◌, ◌<◌, ◌≤◌, min, Bool, true, false, ◌||◌, T, eqb, ◌⊎◌, List, [], ◌∷◌, ◌++◌, length, get_or, set, Some, None, Option, unwrap_or, sym, refl, ap, ◌∙◌, subst, ap₂, inl, inr, arith, eqb→eq, get_or-set_other, get_or-set_same}
+use Rattle.std.proofs.lemmas.List.{set-get_or}
 use Rattle.language.specs.Base.{choose}
-use Rattle.scope.specs.Log.{gone_at, Log, find, said, or_else, entry_at, part, lives, gone_in, rewrite, ways, behind}
-use Rattle.scope.proofs.Tests.{eqb_same}
+use Rattle.scope.specs.Log.{gone_at, Log, find, or_else, bit_of, entry_at, part, lives, gone_in, rewrite, ways, behind}
+use Rattle.std.proofs.lemmas.Bool.{eqb-false}
 use Rattle.scope.proofs.LogWords.{find_said, part_same}
 
 pub behind_is : (arms : List Log) (l : Log) (k : ℕ) → gone_in arms l k ≡ behind arms k (find l k)
@@ -13,16 +13,6 @@ behind_is (a ∷ arms) l k = ap₂ ◌||◌ (find_said a l k) (behind_is arms l 
 pub value_or : (o : Option Bool) (d : Bool) → unwrap_or o d ≡ or_else o d
 value_or None d = refl
 value_or (Some b) d = refl
-
--- a loop over the ends
-pub behind_end : (ws : List ℕ) (from i k : ℕ) (es : List ℕ) (was z : Bool) → length es ≤ i → behind (ways ws from (drop i es)) k was ≡ z → false ≡ z
-behind_end ws from i k es was z h q = sym (ap (λ l. behind (ways ws from l) k was) (drop_all i es h)) ∙ q
-
-pub behind_yes : (ws : List ℕ) (from i k : ℕ) (es : List ℕ) (was z : Bool) → i < length es → or_else (said (part ws from (get_or es i 0 - from)) k) was ≡ true → behind (ways ws from (drop i es)) k was ≡ z → true ≡ z
-behind_yes ws from i k es was z h t q = sym (ap (λ l. behind (ways ws from l) k was) (drop-cons es i 0 h) ∙ ap (λ b. b || behind (ways ws (get_or es i 0) (drop (suc i) es)) k was) t) ∙ q
-
-pub behind_no : (ws : List ℕ) (from i k : ℕ) (es : List ℕ) (was z : Bool) → i < length es → or_else (said (part ws from (get_or es i 0 - from)) k) was ≡ false → behind (ways ws from (drop i es)) k was ≡ z → behind (ways ws (get_or es i 0) (drop (i + 1) es)) k was ≡ z
-behind_no ws from i k es was z h t q = let e : i + 1 ≡ suc i = omega arith in ap (λ n. behind (ways ws (get_or es i 0) (drop n es)) k was) e ∙ sym (ap (λ l. behind (ways ws from l) k was) (drop-cons es i 0 h) ∙ ap (λ b. b || behind (ways ws (get_or es i 0) (drop (suc i) es)) k was) t) ∙ q
 
 -- words that are the same below a height
 pub lives_same : (ws us gs : List ℕ) (g t b : ℕ) → 2 * t ≤ b → ((j : ℕ) → j < b → get_or ws j 0 ≡ get_or us j 0) → lives ws gs g t ≡ lives us gs g t
@@ -69,7 +59,7 @@ over_part ws i b s (suc n) k l h = here (eqb (s + n) i) refl (over_part ws i b s
     here false e ih = at (eqb (get_or ws (2 * (s + n)) 0) k) true (get_or-set_other ws (2 * i + 1) (2 * (s + n) + 1) b 0 (apart e)) refl ih
       where
         apart : eqb (s + n) i ≡ false → 2 * (s + n) + 1 ≡ 2 * i + 1 → ⊥
-        apart e q = let d : s + n ≡ i = omega arith in let z : false ≡ true = sym e ∙ eqb_same (s + n) i d in subst (λ b. T b) (sym z) tt
+        apart e q = eqb-false (s + n) i e (omega arith)
 
 or_left : (c d : Bool) → (c || d) ≡ false → c ≡ false
 or_left true d h = h
@@ -101,6 +91,14 @@ over_ways ws i b k l false (e ∷ es) s h p q = ap₂ ◌||◌ (go (over_part ws
 pub over_word : (ws : List ℕ) (i b : ℕ) (l : Log) (es : List ℕ) (from : ℕ) → 2 * i + 1 < length ws → eqb b 1 ≡ gone_in (ways ws from es) l (get_or ws (2 * i) 0) → (k : ℕ) → gone_in (ways (set ws (2 * i + 1) b) from es) l k ≡ gone_in (ways ws from es) l k
 over_word ws i b l es from h q k = over_ways ws i b k l (gone_in (ways ws from es) l k) es from h (λ e. q ∙ ap (gone_in (ways ws from es) l) e) refl
 
+-- an entry that is written again with what it was says: only its second word may change
+pub put_again : (ws vs : List ℕ) (i p b : ℕ) → p ≡ get_or ws (2 * i) 0 → vs ≡ set (set ws (2 * i) p) (2 * i + 1) b → vs ≡ set ws (2 * i + 1) b
+put_again ws vs i p b h e = e ∙ ap (λ u. set u (2 * i + 1) b) (ap (set ws (2 * i)) h ∙ set-get_or ws (2 * i) 0)
+
+pub bit_is : (b : Bool) → eqb (bit_of b) 1 ≡ b
+bit_is true = refl
+bit_is false = refl
+
 -- one turn of the join: us as it was, ws with what lies below i written
 module _ (ws us gs es : List ℕ) (from count i b : ℕ) (long : 2 * i + 1 < length ws) (after : from ≤ i)
     (low : (j : ℕ) → j < 2 * from → get_or ws j 0 ≡ get_or us j 0) (high : (j : ℕ) → 2 * i ≤ j → get_or ws j 0 ≡ get_or us j 0)
@@ -125,3 +123,12 @@ module _ (ws us gs es : List ℕ) (from count i b : ℕ) (long : 2 * i + 1 < len
       ∙ ap₂ (λ p g. gone_at p g ∷ rewrite (part us from (i - from)) (ways us from es) (lives us gs count from)) (get_or-set_other ws (2 * i + 1) (2 * i) b 0 (omega arith) ∙ high (2 * i) (omega arith)) (ap (λ g. eqb g 1) (get_or-set_same ws (2 * i + 1) b 0 long) ∙ written ∙ ap (gone_in (ways ws from es) (lives us gs count from)) (high (2 * i) (omega arith)) ∙ all (get_or us (2 * i) 0))
       ∙ sym (ap (λ j. gone_at (get_or us (2 * j) 0) (gone_in (ways us from es) (lives us gs count from) (get_or us (2 * j) 0)) ∷ rewrite (part us from (i - from)) (ways us from es) (lives us gs count from)) f)
       ∙ sym (ap (λ n. rewrite (part us from n) (ways us from es) (lives us gs count from)) e)
+
+  abbrev pub Turned : List ℕ → Type 0
+  Turned vs = ((j : ℕ) → j < 2 * from → get_or vs j 0 ≡ get_or us j 0)
+      × ((j : ℕ) → 2 * (i + 1) ≤ j → get_or vs j 0 ≡ get_or us j 0)
+      × ((k : ℕ) → gone_in (ways vs from es) (lives us gs count from) k ≡ gone_in (ways us from es) (lives us gs count from) k)
+      × (part vs from ((i + 1) - from) ≡ rewrite (part us from ((i + 1) - from)) (ways us from es) (lives us gs count from))
+
+  pub join_turn : (vs : List ℕ) → vs ≡ set ws (2 * i + 1) b → part ws from (i - from) ≡ rewrite (part us from (i - from)) (ways us from es) (lives us gs count from) → Turned vs
+  join_turn vs e h = subst Turned (sym e) (join_low, join_high, join_all, join_part h)

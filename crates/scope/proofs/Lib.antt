@@ -1,4 +1,3 @@
-pub mod Tests
 pub mod LogWords
 pub mod JoinWords
 pub mod LoanWords

@@ -1,21 +1,16 @@
 -- The log in words: what one entry more or less says.
-use Rattle.std.proofs.Common.{◌≡◌, ℕ, zero, suc, ◌+◌, ◌-◌, ◌*◌, ◌<◌, ◌≤◌, min, Bool, true, false, eqb, List, [], ◌∷◌, ◌++◌, length, get_or, set, Some, None, Option, sym, refl, ap, ◌∙◌, ap₂, arith, length-set, get_or-set_other, get_or-set_same}
+use Rattle.std.proofs.Common.{◌≡◌, ℕ, zero, suc, ◌+◌, ◌-◌, ◌*◌, ◌<◌, ◌≤◌, ◌≢◌, min, Bool, true, false, eqb, List, [], ◌∷◌, ◌++◌, get_or, Some, None, Option, sym, refl, ap, ◌∙◌, ap₂, arith}
 use Rattle.language.specs.Base.{choose}
-use Rattle.scope.specs.Log.{gone_at, Log, find, said, or_else, entry_at, part, lives}
-use Rattle.scope.proofs.Tests.{eqb_same, eqb_not, choose_yes, choose_no}
+use Rattle.scope.specs.Log.{gone_at, Log, find, said, or_else, entry_at, move_at, part, lives}
+use Rattle.scope.specs.declared.log.Move.{Move}
 
 -- the newest entry of a part
 pub part_step : (ws : List ℕ) (from t : ℕ) → from < t → part ws from (t - from) ≡ entry_at ws (t - 1) ∷ part ws from ((t - 1) - from)
 part_step ws from t h = let e : t - from ≡ suc ((t - 1) - from) = omega arith in let f : from + ((t - 1) - from) ≡ t - 1 = omega arith in ap (part ws from) e ∙ ap (λ i. entry_at ws i ∷ part ws from ((t - 1) - from)) f
 
-pub said_hit : (ws : List ℕ) (from t k : ℕ) (z : Option Bool) → from < t → get_or ws (2 * (t - 1)) 0 ≡ k → said (part ws from (t - from)) k ≡ z → Some (eqb (get_or ws (2 * (t - 1) + 1) 0) 1) ≡ z
-said_hit ws from t k z h e q = sym (ap (λ l. said l k) (part_step ws from t h) ∙ choose_yes (eqb (get_or ws (2 * (t - 1)) 0) k) _ _ (eqb_same _ _ e)) ∙ q
-
-pub said_miss : (ws : List ℕ) (from t k : ℕ) (z : Option Bool) → from < t → (get_or ws (2 * (t - 1)) 0 ≡ k → ⊥) → said (part ws from (t - from)) k ≡ z → said (part ws from ((t - 1) - from)) k ≡ z
-said_miss ws from t k z h e q = sym (ap (λ l. said l k) (part_step ws from t h) ∙ choose_no (eqb (get_or ws (2 * (t - 1)) 0) k) _ _ (eqb_not _ _ e)) ∙ q
-
-pub said_none : (ws : List ℕ) (from t k : ℕ) (z : Option Bool) → t ≤ from → said (part ws from (t - from)) k ≡ z → None ≡ z
-said_none ws from t k z h q = let e : t - from ≡ 0 = omega arith in sym (ap (λ n. said (part ws from n) k) e) ∙ q
+-- an entry of another place says nothing
+pub said_miss : (ws : List ℕ) (from t k : ℕ) (m : Move) (z : Option Bool) → from < t → m ≡ move_at ws (t - 1) → false ≡ eqb m.place.0 k → said (part ws from (t - from)) k ≡ z → said (part ws from ((t - 1) - from)) k ≡ z
+said_miss ws from t k m z h e f q = sym (ap (λ l. said l k) (part_step ws from t h) ∙ ap (λ b. choose b (Some (eqb (get_or ws (2 * (t - 1) + 1) 0) 1)) (said (part ws from ((t - 1) - from)) k)) (ap (λ (m : Move). eqb m.place.0 k) (sym e) ∙ sym f)) ∙ q
 
 -- a part in front of a log: what it says, and where it says nothing, what the log says
 pub find_said : (a l : Log) (k : ℕ) → find (a ++ l) k ≡ or_else (said a k) (find l k)
@@ -45,8 +40,13 @@ pub part_same : (ws us : List ℕ) (from n b : ℕ) → 2 * (from + n) ≤ b →
 part_same ws us from zero b h s = refl
 part_same ws us from (suc n) b h s = ap₂ (λ e l. e ∷ l) (ap₂ (λ p g. gone_at p (eqb g 1)) (s (2 * (from + n)) (omega arith)) (s (2 * (from + n) + 1) (omega arith))) (part_same ws us from n b (omega arith) s)
 
-pub part_push : (ws : List ℕ) (t p b : ℕ) (g : Bool) → 2 * t + 1 < length ws → eqb b 1 ≡ g → part (set (set ws (2 * t) p) (2 * t + 1) b) 0 (t + 1) ≡ gone_at p g ∷ part ws 0 t
-part_push ws t p b g h q = let e : t + 1 ≡ suc t = omega arith in let z : 0 + t ≡ t = omega arith in ap (part (set (set ws (2 * t) p) (2 * t + 1) b) 0) e ∙ ap₂ (λ i l. entry_at (set (set ws (2 * t) p) (2 * t + 1) b) i ∷ l) z (part_same (set (set ws (2 * t) p) (2 * t + 1) b) ws 0 t (2 * t) (omega arith) (λ j s. get_or-set_other (set ws (2 * t) p) (2 * t + 1) j b 0 (omega arith) ∙ get_or-set_other ws (2 * t) j p 0 (omega arith))) ∙ ap₂ (λ p g. gone_at p g ∷ part ws 0 t) (get_or-set_other (set ws (2 * t) p) (2 * t + 1) (2 * t) b 0 (omega arith) ∙ get_or-set_same ws (2 * t) p 0 (omega arith)) (ap (λ b. eqb b 1) (get_or-set_same (set ws (2 * t) p) (2 * t + 1) b 0 (let e : length (set ws (2 * t) p) ≡ length ws = length-set ws (2 * t) p in omega arith)) ∙ q)
+-- entries that are the same say the same
+pub moves_same : (ws us : List ℕ) (from n : ℕ) → ((k : ℕ) → k < from + n → move_at ws k ≡ move_at us k) → part ws from n ≡ part us from n
+moves_same ws us from zero s = refl
+moves_same ws us from (suc n) s = ap₂ (λ (m : Move) (l : Log). gone_at m.place.0 m.gone ∷ l) (s (from + n) (omega arith)) (moves_same ws us from n (λ k h. s k (omega arith)))
+
+pub part_push : (ws us : List ℕ) (t : ℕ) (m : Move) → move_at us t ≡ m → ((k : ℕ) → k ≢ t → move_at us k ≡ move_at ws k) → part us 0 (t + 1) ≡ gone_at m.place.0 m.gone ∷ part ws 0 t
+part_push ws us t m h o = let e : t + 1 ≡ suc t = omega arith in let z : 0 + t ≡ t = omega arith in ap (part us 0) e ∙ ap₂ (λ (m : Move) (l : Log). gone_at m.place.0 m.gone ∷ l) (ap (move_at us) z ∙ h) (moves_same us ws 0 t (λ k l. o k (λ q. omega arith)))
 
 pub or_some : (o : Option Bool) (b d z : Bool) → Some b ≡ o → or_else o d ≡ z → b ≡ z
 or_some o b d z h q = ap (λ o. or_else o d) h ∙ q

@@ -4,14 +4,9 @@ use mathlib.Core.Option.{Option, some, none}
 use Rattle.language.specs.Base.{choose, some_of, Lexeme, same}
 use Rattle.language.specs.Checks.{Loan}
 use Rattle.lexer.specs.Spelling.{spelling}
-use Rattle.types.specs.declared.ty.Outer.{Outer}
-use Rattle.types.specs.declared.ty.Outer.TheVariants.{Plain, Ref, Mut}
-use Rattle.types.specs.declared.ty.Base.{Base}
-use Rattle.types.specs.declared.ty.Base.TheVariants.{Number, Data, Written}
 use Rattle.types.specs.Types.{type_of}
-use Rattle.scope.specs.declared.names.Variable.{Variable}
 use Rattle.scope.specs.Loans.{leaves, slice}
-use Rattle.scope.specs.Slots.{Slot, slot_of, stack, Found, found_at, seek, variable, variable_at, slots_of, Sought, outer_in, base_in, outer_number, base_number, base_operand}
+use Rattle.scope.specs.Slots.{Slot, slot_of, stack, Found, found_at, seek, variable_at, slots_of, Sought}
 use Rattle.scope.proofs.LoanWords.{some_of-++, leaves-++, slice_same}
 
 abbrev slot_at : List ℕ → List ℕ → List ℕ → List ℕ → ℕ → ℕ → Slot
@@ -60,15 +55,17 @@ some_yes f text code ns es h t from b z p e d y q = ap (λ b. b || some_of f (le
 pub some_no : (f : Loan → Bool) (text code ns es : List ℕ) (h t from : ℕ) (b z : Bool) → 0 < h → from ≡ (variable_at ns (h - 1)).loans → b ≡ some_of f (leaves (slice text es from (t - from))) → b ≡ false → some_of f (leaves (stack (slots_of text code ns es h t))) ≡ z → some_of f (leaves (stack (slots_of text code ns es (h - 1) (min t from)))) ≡ z
 some_no f text code ns es h t from b z p e d y q = ap (λ b. b || some_of f (leaves (stack (slots_of text code ns es (h - 1) (min t from))))) (sym y) ∙ some_step f text code ns es h t from b z p e d q
 
--- seven words at once
-abbrev seven : ℕ → ℕ → ℕ → ℕ → ℕ → ℕ → ℕ → Variable
-seven = variable
-
-seven_same : {a b c d e f g a' b' c' d' e' f' g' : ℕ} → a ≡ a' → b ≡ b' → c ≡ c' → d ≡ d' → e ≡ e' → f ≡ f' → g ≡ g' → seven a b c d e f g ≡ seven a' b' c' d' e' f' g'
-seven_same {a} {b} {c} {d} {e} {f} {g} {a'} {b'} {c'} {d'} {e'} {f'} {g'} p q r s t u v = ap₂ (λ x y. seven x y c d e f g) p q ∙ ap₂ (λ x y. seven a' b' x y e f g) r s ∙ ap₂ (λ x y. seven a' b' c' d' x y g) t u ∙ ap (seven a' b' c' d' e' f') v
-
+-- a name whose seven words are the same
 pub variable_same : (ws us : List ℕ) (i b : ℕ) → 7 * i + 7 ≤ b → ((j : ℕ) → j < b → get_or ws j 0 ≡ get_or us j 0) → variable_at ws i ≡ variable_at us i
-variable_same ws us i b h s = seven_same (s (7 * i) (omega arith)) (s (7 * i + 1) (omega arith)) (s (7 * i + 2) (omega arith)) (s (7 * i + 3) (omega arith)) (s (7 * i + 4) (omega arith)) (s (7 * i + 5) (omega arith)) (s (7 * i + 6) (omega arith))
+variable_same ws us i b h s =
+    let x = s (7 * i) (omega arith) in
+    let o = s (7 * i + 1) (omega arith) in
+    let n = s (7 * i + 2) (omega arith) in
+    let t = s (7 * i + 3) (omega arith) in
+    let k = s (7 * i + 4) (omega arith) in
+    let l = s (7 * i + 5) (omega arith) in
+    let m = s (7 * i + 6) (omega arith) in
+    cc
 
 pub slots_same : (text code ns ms es : List ℕ) (h top b : ℕ) → 7 * h ≤ b → ((j : ℕ) → j < b → get_or ns j 0 ≡ get_or ms j 0) → slots_of text code ns es h top ≡ slots_of text code ms es h top
 slots_same text code ns ms es zero top b p s = refl
@@ -85,19 +82,3 @@ slots_loans text code ns es fs (suc h) top b p s = ap₂ (λ l vs. slot_of (spel
         cut : (n : ℕ) → top - m ≡ n → slice text es m n ≡ slice text fs m n
         cut zero e = refl
         cut (suc n) e = slice_same text es fs m (suc n) b (omega arith) s
-
-outer_back : (o : Outer) → outer_in (outer_number o) ≡ o
-outer_back Plain = refl
-outer_back Ref = refl
-outer_back Mut = refl
-
-base_back : (b : Base) → base_in (base_number b) (base_operand b) ≡ b
-base_back Number = refl
-base_back (Data x) = refl
-base_back (Written k) = refl
-
-pub variable_this : (ws : List ℕ) (i o t k l : ℕ) (v : Variable) → o ≡ outer_number v.ty.outer → t ≡ base_number v.ty.base → k ≡ base_operand v.ty.base → eqb l 1 ≡ v.lent → ((j : ℕ) → j < 7 → get_or ws (7 * i + j) 0 ≡ get_or (v.name.0 ∷ o ∷ v.ty.boxes ∷ t ∷ k ∷ v.loans ∷ l ∷ []) j 0) → variable_at ws i ≡ v
-variable_this ws i o t k l v p q r s h = seven_same (let e : 7 * i ≡ 7 * i + 0 = omega arith in ap (λ j. get_or ws j 0) e ∙ h 0 (omega arith)) (h 1 (omega arith) ∙ p) (h 2 (omega arith)) (h 3 (omega arith) ∙ q) (h 4 (omega arith) ∙ r) (h 5 (omega arith)) (h 6 (omega arith)) ∙ back (outer_back v.ty.outer) (base_back v.ty.base) s
-  where
-    back : outer_in (outer_number v.ty.outer) ≡ v.ty.outer → base_in (base_number v.ty.base) (base_operand v.ty.base) ≡ v.ty.base → eqb l 1 ≡ v.lent → seven v.name.0 (outer_number v.ty.outer) v.ty.boxes (base_number v.ty.base) (base_operand v.ty.base) v.loans l ≡ v
-    back p q r = ap₂ (λ o b. record { name = v.name; ty = record { outer = o; boxes = v.ty.boxes; base = b }; loans = v.loans; lent = eqb l 1 }) p q ∙ ap (λ c. record { name = v.name; ty = v.ty; loans = v.loans; lent = c }) r

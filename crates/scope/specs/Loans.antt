@@ -39,6 +39,11 @@ abbrev pub asks : Asked → Lexeme → Loan → Bool
 asks Any x l = same l.root x
 asks One x l = same l.root x && l.alone
 
+abbrev pub entry_number : Entry → ℕ
+entry_number (Shared x) = 0
+entry_number (Alone x) = 1
+entry_number (Via p) = 2
+
 abbrev pub operand_of : Entry → ℕ
 operand_of (Shared x) = x.0
 operand_of (Alone x) = x.0

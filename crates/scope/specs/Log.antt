@@ -1,6 +1,7 @@
 -- What was moved: a log of entries, the newest first, and how it lies in words.
 use Rattle.std.specs.Prelude.{ℕ, zero, suc, ◌+◌, ◌-◌, ◌*◌, min, Bool, true, false, ◌||◌, List, [], ◌∷◌, ◌++◌, Some, None, Option, ◌==◌, slice_index}
 use Rattle.language.specs.Base.{choose}
+use Rattle.scope.specs.declared.log.Move.{Move}
 
 -- the name at a place, from the oldest: gone, or there again
 pub record Gone : Type 0 where
@@ -34,6 +35,9 @@ bit_of false = 0
 -- an entry is two words: a place, and 1 if it's gone
 abbrev pub entry_at : List ℕ → ℕ → Gone
 entry_at ws i = gone_at (slice_index ws (2 * i)) (slice_index ws (2 * i + 1) == 1)
+
+abbrev pub move_at : List ℕ → ℕ → Move
+move_at ws i = record { place = record { 0 = slice_index ws (2 * i) }; gone = (slice_index ws (2 * i + 1) == 1) }
 
 -- n entries from a height on
 abbrev pub part : List ℕ → ℕ → ℕ → Log

@@ -4,11 +4,10 @@ use Rattle.std.proofs.Math.Option.{Option, some, none}
 use Rattle.language.specs.Base.{choose, Lexeme, same}
 use Rattle.language.specs.Syntax.{Ty}
 use Rattle.lexer.specs.Spelling.{spelling}
-use Rattle.types.specs.declared.ty.Outer.{Outer}
-use Rattle.types.specs.declared.ty.Outer.TheVariants.{Plain, Ref, Mut}
 use Rattle.types.specs.declared.ty.Base.{Base}
 use Rattle.types.specs.declared.ty.Base.TheVariants.{Number, Data, Written}
 use Rattle.types.specs.Types.{type_of}
+use Rattle.types.specs.Numbers.{outer_in}
 use Rattle.scope.specs.declared.names.Variable.{Variable}
 use Rattle.scope.specs.Loans.{Ent, slice}
 
@@ -39,9 +38,6 @@ seek [] x = none
 seek (v ∷ vs) x = choose (same v.name x) (some (found_at v vs)) (seek vs x)
 
 -- seven words to a name
-abbrev pub outer_in : ℕ → Outer
-outer_in t = choose (t == 1) Ref (choose (t == 2) Mut Plain)
-
 abbrev pub base_in : ℕ → ℕ → Base
 base_in t k = choose (t == 1) (Data (record { 0 = k })) (choose (t == 2) (Written k) Number)
 
@@ -63,11 +59,6 @@ At text code ns h x k f = (f.slot.name ≡ x) × (f.slot.ty ≡ type_of text cod
 abbrev pub Sought : List ℕ → List ℕ → List ℕ → ℕ → Lexeme → ℕ → Option Found → Type 0
 Sought text code ns h x k none = ⊥
 Sought text code ns h x k (some f) = At text code ns h x k f
-
-abbrev pub outer_number : Outer → ℕ
-outer_number Plain = 0
-outer_number Ref = 1
-outer_number Mut = 2
 
 abbrev pub base_number : Base → ℕ
 base_number Number = 0

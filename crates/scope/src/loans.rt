@@ -1,12 +1,12 @@
-ghost use Rattle.std.specs.Prelude.{◌≡◌, ℕ, ◌+◌, ◌-◌, ◌*◌, ◌<◌, ◌≤◌, List, [], ◌∷◌, length};
+ghost use Rattle.std.specs.Prelude.{◌≡◌, ◌≢◌, ℕ, ◌+◌, ◌-◌, ◌*◌, ◌<◌, ◌≤◌, List, [], ◌∷◌, length};
 ghost use Rattle.language.specs.Base.{some_of};
 ghost use Rattle.lexer.specs.Spelling.{spelling};
-ghost use Rattle.scope.specs.Loans.{loan_at, entry_in, operand_of, slice, leaves, ent_of, asks};
+ghost use Rattle.scope.specs.Loans.{loan_at, entry_in, entry_number, operand_of, slice, leaves, ent_of, asks};
 
 use crate::log::Place;
-use crate::words::write;
-use lexer::Name;
-use types::same_name;
+use crate::words::{Tagged, write};
+use code::Record;
+use lexer::{Name, same_name};
 
 // An entry of a name's loans: a loan, shared or alone, of what another name has; or all that the name at a place has.
 #[derive(Clone, Copy)]
@@ -16,45 +16,51 @@ pub enum Entry {
     Via(Place),
 }
 
-pub fn load_loan(words: &[u64], at: usize) -> Entry
-    requires { 2 * at + 1 < length words.now }
-    ensures { result ≡ loan_at words.now at }
-{
-    let k = words[2 * at + 1] as usize;
-    match words[2 * at] {
-        0 => Entry::Shared(Name(k)),
-        1 => Entry::Alone(Name(k)),
-        _ => Entry::Via(Place(k)),
+impl From<Tagged> for Entry {
+    ghost from_gives = { λ w e. e ≡ entry_in w.tag w.operand };
+
+    fn from(words: Tagged) -> Entry {
+        let k = words.operand as usize;
+        match words.tag {
+            0 => Entry::Shared(Name(k)),
+            1 => Entry::Alone(Name(k)),
+            _ => Entry::Via(Place(k)),
+        }
     }
 }
 
-fn tag(entry: Entry) -> u64
-    ensures { entry_in result (operand_of entry) ≡ entry }
-{
-    match entry {
-        Entry::Shared(_) => 0,
-        Entry::Alone(_) => 1,
-        Entry::Via(_) => 2,
+impl From<Entry> for Tagged {
+    ghost from_gives = { λ e w. (w.tag ≡ entry_number e) × (w.operand ≡ operand_of e) × (entry_in w.tag w.operand ≡ e) };
+
+    fn from(entry: Entry) -> Tagged {
+        match entry {
+            Entry::Shared(name) => Tagged::new(0, name.0 as u64),
+            Entry::Alone(name) => Tagged::new(1, name.0 as u64),
+            Entry::Via(place) => Tagged::new(2, place.0 as u64),
+        }
     }
 }
 
-fn operand(entry: Entry) -> u64
-    ensures { result ≡ operand_of entry }
-{
-    match entry {
-        Entry::Shared(name) => name.0 as u64,
-        Entry::Alone(name) => name.0 as u64,
-        Entry::Via(place) => place.0 as u64,
-    }
-}
+impl Record for Entry {
+    ghost width = { 2 };
 
-// Writes an entry at a height; what's below stays.
-pub fn store_loan(words: &mut [u64], at: usize, entry: Entry)
-    requires { 2 * at + 1 < length words.old }
-    ensures this { loan_at words.new at ≡ entry }
-    ensures below { (text : List ℕ) (from n : ℕ) → from + n ≤ at → slice text words.new from n ≡ slice text words.old from n }
-{
-    write(words, 2 * at, &[tag(entry), operand(entry)]);
+    ghost kept = { loan_at };
+
+    fn load(words: &[u64], number: usize) -> Entry {
+        let i = 2 * number;
+        Entry::from(Tagged::new(words[i], words[i + 1]))
+    }
+
+    // Writes an entry at a height; what's below stays.
+    fn store(self, words: &mut [u64], number: usize)
+        requires { (number + 1) * 2 ≤ length words.old }
+        ensures this { loan_at words.new number ≡ self }
+        ensures others { (k : ℕ) → (k ≢ number) → loan_at words.new k ≡ loan_at words.old k }
+        ensures below { (text : List ℕ) (from n : ℕ) → from + n ≤ number → slice text words.new from n ≡ slice text words.old from n }
+    {
+        let held = Tagged::from(self);
+        write(words, 2 * number, &[held.tag, held.operand]);
+    }
 }
 
 // What is asked of loans: whether there's one at all, or one that's alone.
@@ -83,10 +89,5 @@ pub fn is_lent(text: &[u8], words: &[u64], from: usize, to: usize, name: Name, a
     requires { 2 * to ≤ length words.now }
     ensures { result ≡ some_of (asks asked (spelling text.now name)) (leaves (slice text.now words.now from (to - from))) }
 {
-    for i in from..to {
-        if lends(text, load_loan(words, i), name, asked) {
-            return true;
-        }
-    }
-    false
+    (from..to).any(|i| lends(text, Entry::load(words, i), name, asked))
 }

@@ -1,20 +1,53 @@
-ghost use Rattle.std.specs.Prelude.{◌≡◌, ℕ, ◌+◌, ◌-◌, ◌*◌, ◌<◌, ◌≤◌, ◌∷◌, length, ◌==◌, slice_index};
-ghost use Rattle.scope.specs.Log.{find as Found, said as Said, part, lives, gone_at, bit_of, behind, rewrite, ways};
+ghost use Rattle.std.specs.Prelude.{◌≡◌, ◌≢◌, ℕ, ◌+◌, ◌-◌, ◌*◌, ◌<◌, ◌≤◌, ◌∷◌, length, ◌==◌, slice_index, slice_set};
+ghost use Rattle.scope.specs.Log.{find as Found, said as Said, part, lives, gone_at, bit_of, move_at, behind, rewrite, ways};
+
+use code::Record;
 
 // The place of a name in scope: how many are older.
-#[derive(Clone, Copy)]
+#[derive(Clone, Copy, PartialEq, Eq)]
 pub struct Place(pub usize);
+
+// An entry of the log: the name at a place was moved, or is there again.
+#[derive(Clone, Copy)]
+pub struct Move {
+    pub place: Place,
+    pub gone: bool,
+}
+
+impl Record for Move {
+    ghost width = { 2 };
+
+    ghost kept = { move_at };
+
+    fn load(words: &[u64], number: usize) -> Move {
+        let i = 2 * number;
+        Move {
+            place: Place(words[i] as usize),
+            gone: words[i + 1] == 1,
+        }
+    }
+
+    fn store(self, words: &mut [u64], number: usize)
+        requires { (number + 1) * 2 ≤ length words.old }
+        ensures this { move_at words.new number ≡ self }
+        ensures others { (k : ℕ) → (k ≢ number) → move_at words.new k ≡ move_at words.old k }
+        ensures value { words.new ≡ slice_set (slice_set words.old (2 * number) self.place.0) (2 * number + 1) (bit_of self.gone) }
+    {
+        let i = 2 * number;
+        words[i] = self.place.0 as u64;
+        words[i + 1] = bit(self.gone);
+    }
+}
 
 // What the entries from `from` up to `to` say of a place, the newest first.
 pub fn said(log: &[u64], from: usize, to: usize, place: Place) -> Option<bool>
     requires { 2 * to ≤ length log.now }
     ensures { result ≡ Said (part log.now from (to - from)) place.0 }
 {
-    let mut t = to;
-    while t > from {
-        t -= 1;
-        if log[2 * t] as usize == place.0 {
-            return Some(log[2 * t + 1] == 1);
+    for t in (from..to).rev() {
+        let entry = Move::load(log, t);
+        if entry.place == place {
+            return Some(entry.gone);
         }
     }
     None
@@ -26,18 +59,13 @@ pub fn is_gone(log: &[u64], top: usize, gaps: &[u64], count: usize, place: Place
     ensures { result ≡ Found (lives log.now gaps.now count top) place.0 }
 {
     let mut t = top;
-    let mut g = count;
-    while g > 0 {
-        g -= 1;
-        match said(log, gaps[2 * g + 1] as usize, t, place) {
-            Some(gone) => return gone,
-            None => t = t.min(gaps[2 * g] as usize),
+    for g in (0..count).rev() {
+        if let Some(gone) = said(log, gaps[2 * g + 1] as usize, t, place) {
+            return gone;
         }
+        t = t.min(gaps[2 * g] as usize);
     }
-    match said(log, 0, t, place) {
-        Some(gone) => gone,
-        None => false,
-    }
+    said(log, 0, t, place).unwrap_or(false)
 }
 
 // The word for gone, or there.
@@ -45,7 +73,7 @@ pub fn bit(gone: bool) -> u64
     ensures is { (result == 1) ≡ gone }
     ensures value { result ≡ bit_of gone }
 {
-    if gone { 1 } else { 0 }
+    u64::from(gone)
 }
 
 // A move, or that it's there again: one entry more.
@@ -54,8 +82,7 @@ pub fn push(log: &mut [u64], top: usize, place: Place, gone: bool) -> usize
     ensures height { result ≡ top + 1 }
     ensures newest { part log.new 0 (top + 1) ≡ gone_at place.0 gone ∷ part log.old 0 top }
 {
-    log[2 * top] = place.0 as u64;
-    log[2 * top + 1] = bit(gone);
+    Move { place, gone }.store(log, top);
     top + 1
 }
 
@@ -65,11 +92,13 @@ fn gone_behind(log: &[u64], from: usize, ends: &[u64], place: Place, was: bool) 
     ensures { result ≡ behind (ways log.now from ends.now) place.0 was }
 {
     let mut start = from;
+    // No `any`: each way begins where the last one ended.
     for end in ends {
-        if said(log, start, *end as usize, place).unwrap_or(was) {
+        let end = *end as usize;
+        if said(log, start, end, place).unwrap_or(was) {
             return true;
         }
-        start = *end as usize;
+        start = end;
     }
     false
 }
@@ -80,9 +109,11 @@ pub fn join(log: &mut [u64], from: usize, top: usize, ends: &[u64], gaps: &[u64]
     ensures joined { part log.new from (top - from) ≡ rewrite (part log.old from (top - from)) (ways log.old from ends.now) (lives log.old gaps.now count from) }
     ensures kept { part log.new 0 from ≡ part log.old 0 from }
 {
+    // By number: each turn reads the whole log, of which it writes one entry.
     for i in from..top {
-        let place = Place(log[2 * i] as usize);
+        let place = Move::load(log, i).place;
         let was = is_gone(log, from, gaps, count, place);
-        log[2 * i + 1] = bit(gone_behind(log, from, ends, place, was));
+        let gone = gone_behind(log, from, ends, place, was);
+        Move { place, gone }.store(log, i);
     }
 }

@@ -1,15 +1,16 @@
-ghost use Rattle.std.specs.Prelude.{◌≡◌, ℕ, ◌+◌, ◌-◌, ◌*◌, ◌<◌, ◌≤◌, List, length, MatchOption};
+ghost use Rattle.std.specs.Prelude.{◌≡◌, ◌≢◌, ℕ, ◌+◌, ◌-◌, ◌*◌, ◌<◌, ◌≤◌, List, length, MatchOption};
 ghost use Rattle.std.proofs.Math.Option.{none as Nothing};
 ghost use Rattle.language.specs.Base.{some_of};
 ghost use Rattle.lexer.specs.Spelling.{spelling};
 ghost use Rattle.scope.specs.Loans.{asks, leaves};
-ghost use Rattle.scope.specs.Slots.{variable_at, slots_of, seek as Seek, stack, Sought, outer_in, base_in, outer_number, base_number, base_operand};
+ghost use Rattle.scope.specs.Slots.{variable_at, slots_of, seek as Seek, stack, Sought, base_in, base_number, base_operand};
 
 use crate::loans::{Asked, is_lent};
 use crate::log::{Place, bit};
-use crate::words::write;
-use lexer::Name;
-use types::{Base, Outer, ValueType, same_name};
+use crate::words::{Tagged, write};
+use code::Record;
+use lexer::{Name, same_name};
+use types::{Base, Outer, ValueType};
 
 // A name in scope: its type, where the entries of its loans begin, and whether all of these are of what the caller lent.
 #[derive(Clone, Copy)]
@@ -20,67 +21,42 @@ pub struct Variable {
     pub lent: bool,
 }
 
-fn outer_in(number: u64) -> Outer
-    ensures { result ≡ outer_in number }
-{
-    match number {
-        1 => Outer::Ref,
-        2 => Outer::Mut,
-        _ => Outer::Plain,
+impl From<Tagged> for Base {
+    ghost from_gives = { λ w b. b ≡ base_in w.tag w.operand };
+
+    fn from(words: Tagged) -> Base {
+        match words.tag {
+            1 => Base::Data(Name(words.operand as usize)),
+            2 => Base::Written(words.operand as usize),
+            _ => Base::Number,
+        }
     }
 }
 
-fn outer_number(outer: Outer) -> u64
-    ensures { result ≡ outer_number outer }
-{
-    match outer {
-        Outer::Plain => 0,
-        Outer::Ref => 1,
-        Outer::Mut => 2,
+impl From<Base> for Tagged {
+    ghost from_gives = { λ b w. (w.tag ≡ base_number b) × (w.operand ≡ base_operand b) };
+
+    fn from(base: Base) -> Tagged {
+        match base {
+            Base::Number => Tagged::new(0, 0),
+            Base::Data(name) => Tagged::new(1, name.0 as u64),
+            Base::Written(slot) => Tagged::new(2, slot as u64),
+        }
     }
 }
 
-pub fn base_in(number: u64, operand: u64) -> Base
-    ensures { result ≡ base_in number operand }
-{
-    match number {
-        1 => Base::Data(Name(operand as usize)),
-        2 => Base::Written(operand as usize),
-        _ => Base::Number,
-    }
-}
+impl Record for Variable {
+    ghost width = { 7 };
 
-pub fn base_number(base: Base) -> u64
-    ensures { result ≡ base_number base }
-{
-    match base {
-        Base::Number => 0,
-        Base::Data(_) => 1,
-        Base::Written(_) => 2,
-    }
-}
+    ghost kept = { variable_at };
 
-pub fn base_operand(base: Base) -> u64
-    ensures { result ≡ base_operand base }
-{
-    match base {
-        Base::Number => 0,
-        Base::Data(name) => name.0 as u64,
-        Base::Written(slot) => slot as u64,
-    }
-}
-
-impl Variable {
     // The name at a place.
-    pub fn load(words: &[u64], place: Place) -> Variable
-        requires { 7 * place.0 + 6 < length words.now }
-        ensures { result ≡ variable_at words.now place.0 }
-    {
-        let i = 7 * place.0;
+    fn load(words: &[u64], number: usize) -> Variable {
+        let i = 7 * number;
         let ty = ValueType {
-            outer: outer_in(words[i + 1]),
+            outer: Outer::from(words[i + 1]),
             boxes: words[i + 2] as usize,
-            base: base_in(words[i + 3], words[i + 4]),
+            base: Base::from(Tagged::new(words[i + 3], words[i + 4])),
         };
         Variable {
             name: Name(words[i] as usize),
@@ -91,24 +67,24 @@ impl Variable {
     }
 
     // Writes a name at a place; those below stay.
-    pub fn store(self, words: &mut [u64], place: Place)
-        requires { 7 * place.0 + 6 < length words.old }
-        ensures this { variable_at words.new place.0 ≡ self }
-        ensures older { (k : ℕ) → k < place.0 → variable_at words.new k ≡ variable_at words.old k }
-        ensures below { (text code es : List ℕ) (h top : ℕ) → h ≤ place.0 → slots_of text code words.new es h top ≡ slots_of text code words.old es h top }
+    fn store(self, words: &mut [u64], number: usize)
+        requires { (number + 1) * 7 ≤ length words.old }
+        ensures this { variable_at words.new number ≡ self }
+        ensures others { (k : ℕ) → (k ≢ number) → variable_at words.new k ≡ variable_at words.old k }
+        ensures below { (text code es : List ℕ) (h top : ℕ) → h ≤ number → slots_of text code words.new es h top ≡ slots_of text code words.old es h top }
     {
         let ty = self.ty;
-        let base = ty.base;
+        let base = Tagged::from(ty.base);
         let values = [
             self.name.0 as u64,
-            outer_number(ty.outer),
+            u64::from(ty.outer),
             ty.boxes as u64,
-            base_number(base),
-            base_operand(base),
+            base.tag,
+            base.operand,
             self.loans as u64,
             bit(self.lent),
         ];
-        write(words, 7 * place.0, &values);
+        write(words, 7 * number, &values);
     }
 }
 
@@ -117,10 +93,8 @@ pub fn seek(text: &[u8], names: &[u64], height: usize, name: Name) -> Option<Pla
     requires { 7 * height ≤ length names.now }
     ensures { (code es : List ℕ) (top : ℕ) → MatchOption result (Seek (slots_of text.now code names.now es height top) (spelling text.now name) ≡ Nothing) (λ p. Sought text.now code names.now height (spelling text.now name) p.0 (Seek (slots_of text.now code names.now es height top) (spelling text.now name))) }
 {
-    let mut h = height;
-    while h > 0 {
-        h -= 1;
-        if same_name(text, Variable::load(names, Place(h)).name, name) {
+    for h in (0..height).rev() {
+        if same_name(text, Variable::load(names, h).name, name) {
             return Some(Place(h));
         }
     }
@@ -140,11 +114,9 @@ pub fn has_loan(
     requires { (7 * height ≤ length names.now) × (2 * top ≤ length loans.now) }
     ensures { (code : List ℕ) → result ≡ some_of (asks asked (spelling text.now name)) (leaves (stack (slots_of text.now code names.now loans.now height top))) }
 {
-    let mut h = height;
     let mut t = top;
-    while h > 0 {
-        h -= 1;
-        let from = Variable::load(names, Place(h)).loans;
+    for h in (0..height).rev() {
+        let from = Variable::load(names, h).loans;
         if is_lent(text, loans, from, t, name, asked) {
             return true;
         }

@@ -7,7 +7,22 @@ pub fn write(words: &mut [u64], at: usize, values: &[u64])
     ensures below { (j : ℕ) → j < at → slice_index words.new j ≡ slice_index words.old j }
     ensures above { (j : ℕ) → at + length values.now ≤ j → slice_index words.new j ≡ slice_index words.old j }
 {
-    for i in 0..values.len() {
-        words[at + i] = values[i];
+    let end = at + values.len();
+    words[at..end].copy_from_slice(values);
+}
+
+// Two words: which case of an enum, and of what.
+#[derive(Clone, Copy)]
+pub struct Tagged {
+    pub tag: u64,
+    pub operand: u64,
+}
+
+impl Tagged {
+    pub fn new(tag: u64, operand: u64) -> Tagged
+        ensures tag { result.tag ≡ tag }
+        ensures operand { result.operand ≡ operand }
+    {
+        Tagged { tag, operand }
     }
 }

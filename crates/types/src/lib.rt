@@ -3,6 +3,7 @@
 
 mod base;
 mod layer;
+mod numbers;
 mod role;
 mod same;
 mod ty;

@@ -14,6 +14,7 @@ pub enum Compared {
     Within(ValueType, ValueType),
 }
 
+// By hand and not derived: names are the same if they are spelled the same, which only the text tells.
 fn compare(text: &[u8], x: Shape, y: Shape) -> Compared
     ensures { (code : List ℕ) → Stands text.now code result (shape_of text.now code x) (shape_of text.now code y) }
 {

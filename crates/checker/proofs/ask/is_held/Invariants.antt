@@ -6,7 +6,4 @@ use Rattle.checker.specs.Held.{held_in}
 use Rattle.checker.proofs.ask.is_held.Given as goal
 
 abbrev pub invariant-loop-n : goal.invariant-loop-n
-invariant-loop-n l = (l.n ≤ l.count) × (l.top ≤ l.base) × (some_of (asks l.asked (spelling l.text l.name)) (leaves (held_in l.text l.args l.frames l.n l.top)) ≡ some_of (asks l.asked (spelling l.text l.name)) (leaves (held_in l.text l.args l.frames l.count l.base)))
-
-abbrev pub decreases-loop-n : goal.decreases-loop-n
-decreases-loop-n l = l.n
+invariant-loop-n l = (l.top ≤ l.base) × (some_of (asks l.asked (spelling l.text l.name)) (leaves (held_in l.text l.args l.frames l.n l.top)) ≡ some_of (asks l.asked (spelling l.text l.name)) (leaves (held_in l.text l.args l.frames l.count l.base)))

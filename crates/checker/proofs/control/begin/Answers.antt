@@ -15,5 +15,5 @@ returns c = λ d text code s k st i b nm wh g.
       gaps = g;
       ty = c.int-at.ensures.is text code;
       ents = ap (slice text w.args.now h.base) z;
-      frames = frames_more d text code w.args.now w.seen.now w.ends.now w.frames.now c.store.new.words h.frames _ (tops h) c.args.frame k s.frames refl c.store.ensures.this c.store.ensures.below b i st.frames;
+      frames = frames_more d text code w.args.now w.seen.now w.ends.now w.frames.now c.store.new.words h.frames _ (tops h) c.args.frame k s.frames refl c.store.ensures.this (λ k l. c.store.ensures.others k (λ e. omega arith)) b i st.frames;
     }

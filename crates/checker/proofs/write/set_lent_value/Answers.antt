@@ -14,6 +14,6 @@ returns c = λ d text code s t e st.
       log = st.log;
       gaps = st.gaps;
       ty = e;
-      ents = ap (slice text c.store_loan.new.words h.base) z ∙ ap (λ x. ent_of text x ∷ []) c.store_loan.ensures.this;
-      frames = framed_args d text code w.args.now c.store_loan.new.words w.seen.now w.ends.now w.frames.now h.base (c.store_loan.ensures.below text) h.frames (tops h) s.frames (omega arith) st.frames;
+      ents = ap (slice text c.store.new.words h.base) z ∙ ap (λ x. ent_of text x ∷ []) c.store.ensures.this;
+      frames = framed_args d text code w.args.now c.store.new.words w.seen.now w.ends.now w.frames.now h.base (c.store.ensures.below text) h.frames (tops h) s.frames (omega arith) st.frames;
     }

@@ -1,14 +1,18 @@
-use Rattle.std.proofs.Common.{◌≡◌, ◌-◌, ◌*◌, eqb, length, get_or, sym, ap, ◌∙◌, arith}
-use Rattle.scope.specs.Log.{behind, ways, find, lives, part, rewrite}
+use Rattle.std.proofs.Common.{◌≡◌, ◌*◌, eqb, length, get_or, ap, ◌∙◌, arith}
+use Rattle.scope.specs.Log.{behind, ways, find, lives, bit_of}
 use Rattle.scope.proofs.LogWords.{part_same}
-use Rattle.scope.proofs.JoinWords.{join_low, join_high, join_all, join_part}
+use Rattle.scope.proofs.JoinWords.{join_turn, put_again, bit_is}
 use Rattle.scope.proofs.log.join.Goals as goal
 
-is : (c : goal.After-bit) → eqb c.bit.result 1 ≡ behind (ways c.loop-i.log c.args.from c.args.ends.now) (get_or c.loop-i.log (2 * c.loop-i.i) 0) (find (lives c.loop-i.log c.args.gaps.now c.args.count c.args.from) (get_or c.loop-i.log (2 * c.loop-i.i) 0))
-is c = c.bit.ensures.is ∙ c.gone_behind.ensures ∙ ap (behind (ways c.loop-i.log c.args.from c.args.ends.now) (get_or c.loop-i.log (2 * c.loop-i.i) 0)) c.is_gone-was.ensures
-
 pub loop-i-preserved : goal.loop-i-preserved
-loop-i-preserved c = (join_low c.loop-i.log c.args.log.now c.args.gaps.now c.args.ends.now c.args.from c.args.count c.loop-i.i c.bit.result (let e : length c.loop-i.log ≡ length c.args.log.now = c.loop-i.auto.log in omega arith) c.loop-i.auto.i c.loop-i.invariant.0 c.loop-i.invariant.1 c.loop-i.invariant.2 (is c), join_high c.loop-i.log c.args.log.now c.args.gaps.now c.args.ends.now c.args.from c.args.count c.loop-i.i c.bit.result (let e : length c.loop-i.log ≡ length c.args.log.now = c.loop-i.auto.log in omega arith) c.loop-i.auto.i c.loop-i.invariant.0 c.loop-i.invariant.1 c.loop-i.invariant.2 (is c), join_all c.loop-i.log c.args.log.now c.args.gaps.now c.args.ends.now c.args.from c.args.count c.loop-i.i c.bit.result (let e : length c.loop-i.log ≡ length c.args.log.now = c.loop-i.auto.log in omega arith) c.loop-i.auto.i c.loop-i.invariant.0 c.loop-i.invariant.1 c.loop-i.invariant.2 (is c), join_part c.loop-i.log c.args.log.now c.args.gaps.now c.args.ends.now c.args.from c.args.count c.loop-i.i c.bit.result (let e : length c.loop-i.log ≡ length c.args.log.now = c.loop-i.auto.log in omega arith) c.loop-i.auto.i c.loop-i.invariant.0 c.loop-i.invariant.1 c.loop-i.invariant.2 (is c) c.loop-i.invariant.3)
+loop-i-preserved c =
+    let l : length c.loop-i.log ≡ length c.args.log.now = c.loop-i.auto.log in
+    let k = c.load.result.place.0 in
+    let at : k ≡ get_or c.loop-i.log (2 * c.loop-i.i) 0 = ap (λ m. m.place.0) c.load.ensures in
+    let is : eqb (bit_of c.gone_behind-gone.result) 1 ≡ behind (ways c.loop-i.log c.args.from c.args.ends.now) k (find (lives c.loop-i.log c.args.gaps.now c.args.count c.args.from) k) = bit_is c.gone_behind-gone.result ∙ c.gone_behind-gone.ensures ∙ ap (behind (ways c.loop-i.log c.args.from c.args.ends.now) k) c.is_gone-was.ensures in
+    join_turn c.loop-i.log c.args.log.now c.args.gaps.now c.args.ends.now c.args.from c.args.count c.loop-i.i _ (omega arith) c.loop-i.auto.i c.loop-i.invariant.0 c.loop-i.invariant.1 c.loop-i.invariant.2
+    (is ∙ ap (λ k. behind (ways c.loop-i.log c.args.from c.args.ends.now) k (find (lives c.loop-i.log c.args.gaps.now c.args.count c.args.from) k)) at)
+    c.store.new.words (put_again c.loop-i.log c.store.new.words c.loop-i.i k _ at c.store.ensures.value) c.loop-i.invariant.3
 
-pub returns : goal.returns
-returns c = let e : c.loop-i.i ≡ c.args.top = omega (arith, c.loop-i.auto.i-end c.requires.1.0) in record { joined = ap (λ i. part c.loop-i.log c.args.from (i - c.args.from)) (sym e) ∙ c.loop-i.invariant.3 ∙ ap (λ i. rewrite (part c.args.log.now c.args.from (i - c.args.from)) (ways c.args.log.now c.args.from c.args.ends.now) (lives c.args.log.now c.args.gaps.now c.args.count c.args.from)) e; kept = part_same c.loop-i.log c.args.log.now 0 c.args.from (2 * c.args.from) (omega arith) c.loop-i.invariant.0 }
+pub returns-clause-kept : goal.returns-clause-kept
+returns-clause-kept c = part_same c.loop-i.log c.args.log.now 0 c.args.from (2 * c.args.from) (omega arith) c.loop-i.invariant.0
