@@ -14,26 +14,23 @@ use lexer::{Keyword, Sign};
 
 // A keyword that has to stand here.
 fn keyword(c: &mut Cursor, k: Keyword) -> Result<Action, Expected>
-    ensures does { Does c.old c.new result (step_of (s_token (spelled k))) }
-    ensures text { text_of c.new ≡ text_of c.old }
+    ensures { Does c.old c.new result (step_of (s_token (spelled k))) }
 {
-    c.expect_keyword(k)?;
+    c.expect(k)?;
     Ok(Action::Push0)
 }
 
 // A sign that has to stand here.
 fn sign(c: &mut Cursor, s: Sign) -> Result<Action, Expected>
-    ensures does { Does c.old c.new result (step_of (s_token (drawn s))) }
-    ensures text { text_of c.new ≡ text_of c.old }
+    ensures { Does c.old c.new result (step_of (s_token (drawn s))) }
 {
-    c.expect_sign(s)?;
+    c.expect(s)?;
     Ok(Action::Push0)
 }
 
 // One step: what stands in the place of the symbol that was on top.
 pub fn step(c: &mut Cursor, symbol: Symbol) -> Result<Action, Expected>
-    ensures does { Does c.old c.new result (step_of (symbol_of (text_of c.old) symbol)) }
-    ensures text { text_of c.new ≡ text_of c.old }
+    ensures { Does c.old c.new result (step_of (symbol_of (text_of c.old) symbol)) }
 {
     match symbol {
         Symbol::Emit(i) => Ok(Action::Emit(i)),

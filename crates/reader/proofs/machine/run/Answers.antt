@@ -69,14 +69,14 @@ went c =
     (on_text c.args.text.now (text_of c.loop-at.cursor)
     (λ t. action_of t c.in-Ok.action (tokens c.step.new.c))
     (λ t. step (symbol_of t c.held_at-symbol.result) (tokens c.loop-at.cursor)) c.loop-at.invariant.1
-    c.in-Ok.ensures.does)
+    c.in-Ok.ensures.0)
     c.perform-at.ensures
 
 pub loop-at-smaller : goal.loop-at-smaller
 loop-at-smaller c = (went c).1
 
 pub loop-at-preserved : goal.loop-at-preserved
-loop-at-preserved c = ((went c).0, c.step.ensures.text ∙ c.loop-at.invariant.1)
+loop-at-preserved c = ((went c).0, c.in-Ok.ensures.1 ∙ c.loop-at.invariant.1)
 
 pub returns-in-Err : goal.returns-in-Err
 unfolding below
@@ -88,11 +88,11 @@ returns-in-Err c = record {
       c.held_at-symbol.ensures
       (on_text c.args.text.now (text_of c.loop-at.cursor) (λ t. fail)
       (λ t. step (symbol_of t c.held_at-symbol.result) (tokens c.loop-at.cursor)) c.loop-at.invariant.1
-      c.in-Err.ensures.does);
+      c.in-Err.ensures.0);
   stands =
       standing c.misread.result (tokens c.step.new.c)
       (subst (λ t. Stands t c.misread.result (tokens c.step.new.c))
-      (c.step.ensures.text ∙ c.loop-at.invariant.1) c.misread.ensures);
+      (c.in-Err.ensures.1 ∙ c.loop-at.invariant.1) c.misread.ensures);
 }
 
 pub returns : goal.returns

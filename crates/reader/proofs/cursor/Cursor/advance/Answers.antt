@@ -3,4 +3,4 @@ use Rattle.reader.proofs.cursor.Cursor.advance.Goals as goal
 
 pub returns : goal.returns
 unfolding tokens
-returns c = record { gone = c.next.ensures.left; text = c.next.ensures.text }
+returns c = (c.next.ensures.left, c.next.ensures.text)
