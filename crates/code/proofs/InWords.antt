@@ -39,12 +39,20 @@ module _ (words : List ℕ) (k : ℕ) (s : Slot) where
       ∙ ap (λ x. slot s.op x (get_or (with_slot words k s) (3 * k + 2) 0)) b
       ∙ ap (λ x. slot s.op s.first x) c
 
--- a slot whose three words are the same holds the same
+-- a slot whose three words are the same is the same, and holds the same
+same_words : (words after : List ℕ) (k : ℕ) → ((j : ℕ) → 3 * k ≤ j → j < 3 * k + 3 → get_or after j 0 ≡ get_or words j 0) → slot_in after k ≡ slot_in words k
+same_words words after k e =
+    let a = e (3 * k) (omega arith) (omega arith) in
+    let b = e (3 * k + 1) (omega arith) (omega arith) in
+    let c = e (3 * k + 2) (omega arith) (omega arith) in
+    cc
+
 pub same_slot : (words after : List ℕ) (k : ℕ) → ((j : ℕ) → 3 * k ≤ j → j < 3 * k + 3 → get_or after j 0 ≡ get_or words j 0) → instr_at after k ≡ instr_at words k
-same_slot words after k e =
-    ap (λ x. held (slot x (get_or after (3 * k + 1) 0) (get_or after (3 * k + 2) 0))) (e (3 * k) (omega arith) (omega arith))
-    ∙ ap (λ x. held (slot (get_or words (3 * k) 0) x (get_or after (3 * k + 2) 0))) (e (3 * k + 1) (omega arith) (omega arith))
-    ∙ ap (λ x. held (slot (get_or words (3 * k) 0) (get_or words (3 * k + 1) 0) x)) (e (3 * k + 2) (omega arith) (omega arith))
+same_slot words after k e = ap held (same_words words after k e)
+
+-- another slot than the one that is written
+pub slot_kept : (words : List ℕ) (k : ℕ) (s : Slot) (l : ℕ) → l ≢ k → slot_in (with_slot words k s) l ≡ slot_in words l
+slot_kept words k s l ne = same_words words (with_slot words k s) l (λ j low high. word_kept words k s j (λ e. ne (omega arith)) (λ e. ne (omega arith)) (λ e. ne (omega arith)))
 
 pub instr_put : (words : List ℕ) (k : ℕ) (i : Instr) → 3 * k + 2 < length words → instr_at (with_slot words k (slot_of i)) k ≡ Some i
 instr_put words k i h = ap held (slot_put words k (slot_of i) h) ∙ round_trip i

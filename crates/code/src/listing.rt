@@ -130,9 +130,8 @@ pub struct Listing<'a> {
 
 impl fmt::Display for Listing<'_> {
     fn fmt<W: fmt::Write>(&self, f: &mut fmt::Formatter<W>) -> fmt::Result {
-        let slots = self.words.len() / 3;
-        for k in 0..slots {
-            match decode(self.words, k) {
+        for (k, slot) in self.words.chunks_exact(3).enumerate() {
+            match decode(slot, 0) {
                 Some(instr) => {
                     let listed = Listed {
                         text: self.text,

@@ -5,16 +5,6 @@ use crate::instr::Instr;
 use crate::slot::Slot;
 use lexer::Name;
 
-fn plain(op: u64) -> Slot
-    ensures { result ≡ slot op 0 0 }
-{
-    Slot {
-        op,
-        first: 0,
-        second: 0,
-    }
-}
-
 fn named(op: u64, x: Name) -> Slot
     ensures { result ≡ slot op x.0 0 }
 {
@@ -35,33 +25,33 @@ fn two_names(op: u64, x: Name, y: Name) -> Slot
     }
 }
 
-impl Instr {
-    pub fn slot(self) -> Slot
-        ensures { result ≡ slot_of self }
-    {
-        match self {
-            Instr::Int => plain(0),
-            Instr::Arg => plain(1),
-            Instr::Apply => plain(2),
-            Instr::Box => plain(3),
-            Instr::Get => plain(4),
-            Instr::Put => plain(5),
-            Instr::If => plain(6),
-            Instr::Else => plain(7),
-            Instr::EndIf => plain(8),
-            Instr::While => plain(9),
-            Instr::Do => plain(10),
-            Instr::EndWhile => plain(11),
-            Instr::Body => plain(12),
-            Instr::EndArm => plain(13),
-            Instr::EndMatch => plain(14),
-            Instr::Give => plain(15),
-            Instr::EndFn => plain(16),
-            Instr::TyInt => plain(17),
-            Instr::TyBox => plain(18),
-            Instr::TyRef => plain(19),
-            Instr::TyMut => plain(20),
-            Instr::Field => plain(21),
+impl From<Instr> for Slot {
+    ghost from_gives = { λ i s. s ≡ slot_of i };
+
+    fn from(instr: Instr) -> Slot {
+        match instr {
+            Instr::Int => Slot::plain(0),
+            Instr::Arg => Slot::plain(1),
+            Instr::Apply => Slot::plain(2),
+            Instr::Box => Slot::plain(3),
+            Instr::Get => Slot::plain(4),
+            Instr::Put => Slot::plain(5),
+            Instr::If => Slot::plain(6),
+            Instr::Else => Slot::plain(7),
+            Instr::EndIf => Slot::plain(8),
+            Instr::While => Slot::plain(9),
+            Instr::Do => Slot::plain(10),
+            Instr::EndWhile => Slot::plain(11),
+            Instr::Body => Slot::plain(12),
+            Instr::EndArm => Slot::plain(13),
+            Instr::EndMatch => Slot::plain(14),
+            Instr::Give => Slot::plain(15),
+            Instr::EndFn => Slot::plain(16),
+            Instr::TyInt => Slot::plain(17),
+            Instr::TyBox => Slot::plain(18),
+            Instr::TyRef => Slot::plain(19),
+            Instr::TyMut => Slot::plain(20),
+            Instr::Field => Slot::plain(21),
             Instr::Var(x) => named(22, x),
             Instr::Make(x) => named(23, x),
             Instr::Call(x) => named(24, x),
@@ -85,12 +75,12 @@ impl Instr {
             },
             Instr::Op(o) => Slot {
                 op: 39,
-                first: o as u64,
+                first: u64::from(o),
                 second: 0,
             },
             Instr::Match(w, x) => Slot {
                 op: 40,
-                first: w as u64,
+                first: u64::from(w),
                 second: x.0 as u64,
             },
             Instr::Open(x, y) => two_names(41, x, y),

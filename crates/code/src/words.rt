@@ -3,6 +3,7 @@ ghost use Rattle.code.specs.Slots.{slot_of};
 ghost use Rattle.code.specs.Words.{instr_at, with_slot};
 
 use crate::instr::Instr;
+use crate::record::Record;
 use crate::slot::Slot;
 
 // The instruction in the k-th slot of the words, if it holds one.
@@ -10,13 +11,7 @@ pub fn decode(words: &[u64], k: usize) -> Option<Instr>
     requires { 3 * k + 2 < length words.now }
     ensures { result ≡ instr_at words.now k }
 {
-    let at = 3 * k;
-    let slot = Slot {
-        op: words[at],
-        first: words[at + 1],
-        second: words[at + 2],
-    };
-    slot.instr()
+    Instr::try_from(Slot::load(words, k)).ok()
 }
 
 // Puts an instruction into the k-th slot of the words.
@@ -26,9 +21,5 @@ pub fn encode(instr: Instr, words: &mut [u64], k: usize)
     ensures holds { instr_at words.new k ≡ Some instr }
     ensures kept { (((j : ℕ) → j < 3 * k → slice_index words.new j ≡ slice_index words.old j)) × (((j : ℕ) → 3 * k + 2 < j → slice_index words.new j ≡ slice_index words.old j)) }
 {
-    let slot = instr.slot();
-    let at = 3 * k;
-    words[at] = slot.op;
-    words[at + 1] = slot.first;
-    words[at + 2] = slot.second;
+    Slot::from(instr).store(words, k);
 }
