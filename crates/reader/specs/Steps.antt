@@ -1,10 +1,12 @@
 -- What the reader's symbols and actions in words mean, over the text that their names are places of.
 use Rattle.std.specs.Prelude.{◌≡◌, ℕ, Bool, true, false, List, [], ◌∷◌, Some, None, Ok, Err, Option as Maybe, Result, MatchOption}
-use Rattle.std.proofs.Math.Option.{some, none}
+use Rattle.std.proofs.Math.Option.{Option, some, none}
 use Rattle.language.specs.Base.{Lexeme, choose, same}
-use Rattle.language.specs.Text.{peek, skip_one, is_number, value_of, sign_on, a_way}
+use Rattle.language.specs.Text.{peek, skip_one, is_number, value_of, a_way}
 use Rattle.language.specs.Text.{kw_else, kw_give, sg_rp, sg_rc, sg_semi, sg_colon}
 use Rattle.lexer.specs.declared.name.Name.{Name}
+use Rattle.lexer.specs.declared.token.Sign.{Sign}
+use Rattle.lexer.specs.Tokens.{drawn}
 use Rattle.lexer.specs.Spelling.{spelling}
 use Rattle.lexer.specs.Left.{Begins, Next}
 use Rattle.code.specs.Means.{means, op_number, access_of}
@@ -109,10 +111,15 @@ Counted (Ok (Some n)) ts left = (is_number (peek ts) ≡ true) × (value_of (pee
 Counted (Ok None) ts left = (is_number (peek ts) ≡ false) × (left ≡ ts)
 Counted (Err e) ts left = (is_number (peek ts) ≡ true) × (value_of (peek ts) ≡ none)
 
--- a sign of that level
-abbrev pub Joined : ℕ → Maybe Operator → List Lexeme → List Lexeme → Type 0
-Joined level (Some o) ts left = (sign_on level (peek ts) ≡ some (op_number o)) × (left ≡ skip_one ts)
-Joined level None ts left = (sign_on level (peek ts) ≡ none) × (left ≡ ts)
+-- the operator of the first of these signs that the lexeme is
+abbrev pub operator_of : List (Sign × Operator) → Lexeme → Option ℕ
+operator_of [] w = none
+operator_of (p ∷ ps) w = choose (same w (drawn p.0)) (some (op_number p.1)) (operator_of ps w)
+
+-- one of these signs, or none of them
+abbrev pub Joined : List (Sign × Operator) → Maybe Operator → List Lexeme → List Lexeme → Type 0
+Joined signs (Some o) ts left = (operator_of signs (peek ts) ≡ some (op_number o)) × (left ≡ skip_one ts)
+Joined signs None ts left = (operator_of signs (peek ts) ≡ none) × (left ≡ ts)
 
 -- how a match looks at its value
 abbrev pub Looked : Maybe Access → List Lexeme → List Lexeme → Type 0

@@ -12,53 +12,37 @@ use super::symbol::Symbol;
 use code::{Instr, Operator};
 use lexer::{Keyword, Name, Sign};
 
-// The sign of a comparison, if one is next.
-fn comparison(c: &mut Cursor) -> Option<Operator>
-    ensures { Reads c.old c.new (Joined 1 result) }
+// The operator of the first of these signs that is next, if one of them is.
+fn operator(c: &mut Cursor, signs: &[(Sign, Operator)]) -> Option<Operator>
+    ensures { Reads c.old c.new (Joined signs.now result) }
 {
-    if c.accept(Sign::Equal) {
-        return Some(Operator::Equal);
-    }
-    if c.accept(Sign::Less) {
-        return Some(Operator::Less);
+    for &(sign, operator) in signs {
+        if c.accept(sign) {
+            return Some(operator);
+        }
     }
     None
 }
 
-// The sign of a sum, if one is next.
-fn addition(c: &mut Cursor) -> Option<Operator>
-    ensures { Reads c.old c.new (Joined 2 result) }
-{
-    if c.accept(Sign::Plus) {
-        return Some(Operator::Add);
-    }
-    if c.accept(Sign::Minus) {
-        return Some(Operator::Sub);
-    }
-    None
-}
+// The signs between two operands: of a comparison, a sum and a product.
+const COMPARISONS: [(Sign, Operator); 2] = [
+    (Sign::Equal, Operator::Equal),
+    (Sign::Less, Operator::Less),
+];
 
-// The sign of a product, if one is next.
-fn multiplication(c: &mut Cursor) -> Option<Operator>
-    ensures { Reads c.old c.new (Joined 3 result) }
-{
-    if c.accept(Sign::Star) {
-        return Some(Operator::Mul);
-    }
-    if c.accept(Sign::Slash) {
-        return Some(Operator::Div);
-    }
-    if c.accept(Sign::Percent) {
-        return Some(Operator::Rem);
-    }
-    None
-}
+const SUMS: [(Sign, Operator); 2] = [(Sign::Plus, Operator::Add), (Sign::Minus, Operator::Sub)];
+
+const PRODUCTS: [(Sign, Operator); 3] = [
+    (Sign::Star, Operator::Mul),
+    (Sign::Slash, Operator::Div),
+    (Sign::Percent, Operator::Rem),
+];
 
 // Behind a sum: one comparison, or none.
 pub fn compared(c: &mut Cursor) -> Result<Action, Expected>
     ensures { Does c.old c.new result (step s_compared) }
 {
-    match comparison(c) {
+    match operator(c, &COMPARISONS) {
         Some(o) => Ok(Action::Push3([
             Symbol::Emit(Instr::Int),
             Symbol::Sum,
@@ -72,7 +56,7 @@ pub fn compared(c: &mut Cursor) -> Result<Action, Expected>
 pub fn more_sum(c: &mut Cursor) -> Result<Action, Expected>
     ensures { Does c.old c.new result (step s_more_sum) }
 {
-    match addition(c) {
+    match operator(c, &SUMS) {
         Some(o) => Ok(Action::Push4([
             Symbol::Emit(Instr::Int),
             Symbol::Product,
@@ -87,7 +71,7 @@ pub fn more_sum(c: &mut Cursor) -> Result<Action, Expected>
 pub fn more_product(c: &mut Cursor) -> Result<Action, Expected>
     ensures { Does c.old c.new result (step s_more_product) }
 {
-    match multiplication(c) {
+    match operator(c, &PRODUCTS) {
         Some(o) => Ok(Action::Push4([
             Symbol::Emit(Instr::Int),
             Symbol::Factor,

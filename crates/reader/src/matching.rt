@@ -1,8 +1,8 @@
 ghost use Rattle.std.specs.Prelude.{◌≡◌, [], ◌∷◌};
-ghost use Rattle.reader.specs.Symbol.{step, step_match};
+ghost use Rattle.reader.specs.Symbol.{step, step_match, step_arms};
 ghost use Rattle.reader.specs.Symbol.{s_names, s_some_names, s_stmts, s_alts, s_arms};
-ghost use Rattle.reader.specs.Steps.{Looked};
-ghost use Rattle.reader.specs.Tokens.{Reads, Does};
+ghost use Rattle.reader.specs.Steps.{Looked, symbol_of};
+ghost use Rattle.reader.specs.Tokens.{text_of, Reads, Does};
 ghost use Rattle.code.specs.Means.{access_of};
 
 use super::action::Action;
@@ -63,7 +63,7 @@ pub fn matched(c: &mut Cursor, way: Access) -> Result<Action, Expected>
     ]))
 }
 
-// The same at the end of a body.
+// The same at the end of a body. Two functions, since the actions are of two sizes.
 pub fn given_match(c: &mut Cursor, way: Access) -> Result<Action, Expected>
     ensures { Does c.old c.new result (step_match (access_of way) s_arms []) }
 {
@@ -72,9 +72,9 @@ pub fn given_match(c: &mut Cursor, way: Access) -> Result<Action, Expected>
     Ok(Action::Push2([Symbol::Emit(Instr::Match(way, x)), Symbol::Arms]))
 }
 
-// The alternatives of a match, up to the closing brace.
-pub fn alts(c: &mut Cursor) -> Result<Action, Expected>
-    ensures { Does c.old c.new result (step s_alts) }
+// The alternatives of a match, up to the closing brace: what an alternative has inside, and what reads those behind it.
+pub fn arms(c: &mut Cursor, inside: Symbol, again: Symbol) -> Result<Action, Expected>
+    ensures { Does c.old c.new result (step_arms (symbol_of (text_of c.old) inside) (symbol_of (text_of c.old) again)) }
 {
     if c.accept(Sign::RightBrace) {
         return Ok(Action::Emit(Instr::EndMatch));
@@ -84,26 +84,8 @@ pub fn alts(c: &mut Cursor) -> Result<Action, Expected>
         Symbol::Emit(Instr::Arm(ctor)),
         Symbol::SomeNames,
         Symbol::Emit(Instr::Body),
-        Symbol::Block,
+        inside,
         Symbol::Emit(Instr::EndArm),
-        Symbol::Alts,
-    ]))
-}
-
-// The alternatives of a match that a body gives.
-pub fn arms(c: &mut Cursor) -> Result<Action, Expected>
-    ensures { Does c.old c.new result (step s_arms) }
-{
-    if c.accept(Sign::RightBrace) {
-        return Ok(Action::Emit(Instr::EndMatch));
-    }
-    let ctor = c.upper()?;
-    Ok(Action::Push6([
-        Symbol::Emit(Instr::Arm(ctor)),
-        Symbol::SomeNames,
-        Symbol::Emit(Instr::Body),
-        Symbol::Body,
-        Symbol::Emit(Instr::EndArm),
-        Symbol::Arms,
+        again,
     ]))
 }
