@@ -16,6 +16,7 @@ pub struct Cursor<'a> {
 }
 
 impl<'a> Cursor<'a> {
+    #[tactic(auto, unfolding(crate::specs::Tokens::tokens))]
     pub fn new(text: &'a [u8]) -> Self
         ensures text { text_of result ≡ text.now }
         ensures all { tokens result ≡ tokenize idle text.now }
@@ -25,12 +26,14 @@ impl<'a> Cursor<'a> {
         }
     }
 
+    #[tactic(auto, unfolding(crate::specs::Tokens::tokens))]
     fn token(&self) -> Option<Token>
         ensures { Next (text_of self.now) result (tokens self.now) }
     {
         self.lexer.peek()
     }
 
+    #[tactic(auto, unfolding(crate::specs::Tokens::tokens))]
     fn advance(&mut self)
         ensures { Reads self.old self.new (λ ts left. left ≡ skip_one ts) }
     {
@@ -38,6 +41,7 @@ impl<'a> Cursor<'a> {
     }
 
     // The token ahead is none that may stand there.
+    #[tactic(auto, unfolding(crate::specs::Tokens::tokens))]
     pub fn misread(&self, expected: Expected) -> Misread
         ensures { Stands (text_of self.now) result (tokens self.now) }
     {
@@ -60,12 +64,14 @@ impl<'a> Cursor<'a> {
         asked.is_ahead(self.token())
     }
 
+    #[tactic(auto, using(lexer::proofs::Asks::asks_lower))]
     fn lower_ahead(&self) -> Option<Name>
         ensures { Told (text_of self.now) is_lower result (peek (tokens self.now)) }
     {
         ahead::lower(self.token())
     }
 
+    #[tactic(auto, using(lexer::proofs::Asks::asks_upper))]
     fn upper_ahead(&self) -> Option<Name>
         ensures { Told (text_of self.now) is_upper result (peek (tokens self.now)) }
     {

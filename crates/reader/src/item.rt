@@ -1,6 +1,5 @@
 ghost use Rattle.std.specs.Prelude.{◌≡◌};
-ghost use Rattle.reader.specs.Symbol.{step, step_data, step_fn, step_item, s_type, s_fields_on, s_some_fields, s_ctors};
-ghost use Rattle.reader.specs.Symbol.{s_ctors_on, s_params, s_params_on, s_some_params, s_drop, s_items};
+ghost use Rattle.reader.specs.Symbol.{step, step_data, step_fn, step_item, s_type, s_ctors, s_params, s_some_params, s_drop, s_items};
 ghost use Rattle.reader.specs.Tokens.{text_of, Does};
 ghost use Rattle.lexer.specs.Spelling.{spelling};
 
@@ -31,27 +30,6 @@ pub fn ty(c: &mut Cursor) -> Result<Action, Expected>
     Ok(Action::Emit(Instr::TyData(name)))
 }
 
-// Behind a field's type: another one, or the end.
-pub fn fields_on(c: &mut Cursor) -> Result<Action, Expected>
-    ensures { Does c.old c.new result (step s_fields_on) }
-{
-    if c.accept(Sign::Comma) {
-        return Ok(Action::Push1([Symbol::Fields]));
-    }
-    c.expect(Sign::RightParen)?;
-    Ok(Action::Push0)
-}
-
-// A constructor's fields in their bracket, or none.
-pub fn some_fields(c: &mut Cursor) -> Result<Action, Expected>
-    ensures { Does c.old c.new result (step s_some_fields) }
-{
-    if c.accept(Sign::LeftParen) {
-        return Ok(Action::Push1([Symbol::Fields]));
-    }
-    Ok(Action::Push0)
-}
-
 // A constructor, and those behind it.
 pub fn ctors(c: &mut Cursor) -> Result<Action, Expected>
     ensures { Does c.old c.new result (step s_ctors) }
@@ -64,16 +42,6 @@ pub fn ctors(c: &mut Cursor) -> Result<Action, Expected>
     ]))
 }
 
-// Behind a constructor: another one, or none.
-pub fn ctors_on(c: &mut Cursor) -> Result<Action, Expected>
-    ensures { Does c.old c.new result (step s_ctors_on) }
-{
-    if c.accept(Sign::Bar) {
-        return Ok(Action::Push1([Symbol::Ctors]));
-    }
-    Ok(Action::Push0)
-}
-
 // A parameter, and those behind it.
 pub fn params(c: &mut Cursor) -> Result<Action, Expected>
     ensures { Does c.old c.new result (step s_params) }
@@ -81,17 +49,6 @@ pub fn params(c: &mut Cursor) -> Result<Action, Expected>
     let x = c.lower(Expected::Name)?;
     c.expect(Sign::Colon)?;
     Ok(Action::Push3([Symbol::Ty, Symbol::Emit(Instr::Param(x)), Symbol::ParamsOn]))
-}
-
-// Behind a parameter: another one, or the end.
-pub fn params_on(c: &mut Cursor) -> Result<Action, Expected>
-    ensures { Does c.old c.new result (step s_params_on) }
-{
-    if c.accept(Sign::Comma) {
-        return Ok(Action::Push1([Symbol::Params]));
-    }
-    c.expect(Sign::RightParen)?;
-    Ok(Action::Push0)
 }
 
 // A function's parameters behind the bracket, or none.

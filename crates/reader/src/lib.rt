@@ -8,6 +8,7 @@ mod cursor;
 mod error;
 mod expr;
 mod item;
+mod lists;
 mod machine;
 mod matching;
 mod progress;

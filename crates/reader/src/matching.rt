@@ -1,6 +1,6 @@
 ghost use Rattle.std.specs.Prelude.{◌≡◌, [], ◌∷◌};
 ghost use Rattle.reader.specs.Symbol.{step, step_match, step_arms};
-ghost use Rattle.reader.specs.Symbol.{s_names, s_some_names, s_stmts, s_alts, s_arms};
+ghost use Rattle.reader.specs.Symbol.{s_names, s_stmts, s_alts, s_arms};
 ghost use Rattle.reader.specs.Steps.{Looked, symbol_of};
 ghost use Rattle.reader.specs.Tokens.{text_of, Reads, Does};
 ghost use Rattle.code.specs.Means.{access_of};
@@ -12,7 +12,7 @@ use super::symbol::Symbol;
 use code::{Access, Instr};
 use lexer::{Keyword, Name, Sign};
 
-// How a match looks at its value, if one is next.
+// How a match looks at its value, if one is next. No table as of signs and operators: it is the only one of keywords.
 pub fn access(c: &mut Cursor) -> Option<Access>
     ensures { Reads c.old c.new (Looked result) }
 {
@@ -38,16 +38,6 @@ pub fn names(c: &mut Cursor) -> Result<Action, Expected>
     }
     c.expect(Sign::RightParen)?;
     Ok(Action::Emit(Instr::Part(x)))
-}
-
-// The same with their bracket, or none.
-pub fn some_names(c: &mut Cursor) -> Result<Action, Expected>
-    ensures { Does c.old c.new result (step s_some_names) }
-{
-    if c.accept(Sign::LeftParen) {
-        return Ok(Action::Push1([Symbol::Names]));
-    }
-    Ok(Action::Push0)
 }
 
 // Behind take, view or edit: the name that is matched, and its alternatives.

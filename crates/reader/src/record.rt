@@ -10,10 +10,12 @@ impl Record for Symbol {
 
     ghost kept = { symbol_at };
 
+    #[tactic(auto, unfolding(crate::specs::Stack::symbol_at))]
     fn load(words: &[u64], number: usize) -> Symbol {
         Symbol::from(Slot::load(words, number))
     }
 
+    #[tactic(auto, using(crate::proofs::OnStack::held_again), unfolding(crate::specs::Stack::symbol_at))]
     fn store(self, words: &mut [u64], number: usize)
         requires { (number + 1) * 3 ≤ length words.old }
         ensures this { symbol_at words.new number ≡ self }

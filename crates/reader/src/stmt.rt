@@ -70,7 +70,8 @@ fn store(c: &mut Cursor) -> Result<Action, Expected>
     ]))
 }
 
-// A name, and its new value.
+// A name, and its new value. Apart from store, from which it differs in what is expected and in the instruction: one function for both
+// would be handed a constructor of instructions and read no plainer.
 fn assignment(c: &mut Cursor) -> Result<Action, Expected>
     ensures { Does c.old c.new result step_assign }
 {

@@ -9,7 +9,7 @@ use super::ahead::Asked;
 use super::cursor::Cursor;
 use super::error::Expected;
 use super::symbol::Symbol;
-use super::{body, expr, item, matching, stmt};
+use super::{body, expr, item, lists, matching, stmt};
 use code::Instr;
 use lexer::{Keyword, Sign};
 
@@ -45,7 +45,7 @@ pub fn step(c: &mut Cursor, symbol: Symbol) -> Result<Action, Expected>
         Symbol::Args => Ok(Action::Push3([Symbol::Expr, Symbol::Emit(Instr::Arg), Symbol::ArgsOn])),
         Symbol::ArgsOn => expr::args_on(c),
         Symbol::Names => matching::names(c),
-        Symbol::SomeNames => matching::some_names(c),
+        Symbol::SomeNames => lists::behind(c, Sign::LeftParen, Symbol::Names),
         Symbol::Stmts => stmt::stmts(c),
         Symbol::Block => body::block(c),
         Symbol::Alts => matching::arms(c, Symbol::Block, Symbol::Alts),
@@ -58,12 +58,12 @@ pub fn step(c: &mut Cursor, symbol: Symbol) -> Result<Action, Expected>
             Symbol::Emit(Instr::Field),
             Symbol::FieldsOn,
         ])),
-        Symbol::FieldsOn => item::fields_on(c),
-        Symbol::SomeFields => item::some_fields(c),
+        Symbol::FieldsOn => lists::on(c, Symbol::Fields),
+        Symbol::SomeFields => lists::behind(c, Sign::LeftParen, Symbol::Fields),
         Symbol::Ctors => item::ctors(c),
-        Symbol::CtorsOn => item::ctors_on(c),
+        Symbol::CtorsOn => lists::behind(c, Sign::Bar, Symbol::Ctors),
         Symbol::Params => item::params(c),
-        Symbol::ParamsOn => item::params_on(c),
+        Symbol::ParamsOn => lists::on(c, Symbol::Params),
         Symbol::SomeParams => item::some_params(c),
         Symbol::DataEnd(name) => item::data_end(c, name),
         Symbol::Items => item::items(c),
