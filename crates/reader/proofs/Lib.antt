@@ -10,4 +10,5 @@ pub mod Bounds
 pub mod ReadInvariant
 pub mod ReadRun
 pub mod OnStack
+pub mod Piled
 pub mod Turns

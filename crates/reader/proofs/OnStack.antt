@@ -1,12 +1,9 @@
 -- The stack in words: a slot holds the symbol that was put into it, and what is written beside it leaves it as it was.
-use Rattle.std.proofs.Common.{◌≡◌, ℕ, zero, suc, ◌+◌, ◌-◌, ◌*◌, ◌<◌, ◌≤◌, true, ltb, List, ◌∷◌, ◌++◌, length, get_or, drop, sym, refl, ap, ◌∙◌, ap₂, add-one, arith}
-use Rattle.std.proofs.lemmas.List.{drop_more}
+use Rattle.std.proofs.Common.{◌≡◌, ◌≢◌, ℕ, zero, suc, ◌+◌, ◌*◌, ◌<◌, ◌≤◌, true, ltb, List, ◌∷◌, length, get_or, refl, ap, ◌∙◌, ap₂, add-one, arith}
 use Rattle.lexer.proofs.Cut.{choose_true}
 use Rattle.code.specs.declared.instr.Instr.{Instr}
 use Rattle.code.specs.Slots.{slot, slot_of}
-use Rattle.code.specs.Words.{with_slot}
 use Rattle.code.proofs.RoundTrip.{round_trip}
-use Rattle.code.proofs.InWords.{slot_put, word_kept}
 use Rattle.reader.specs.declared.symbol.Symbol.{Symbol}
 use Rattle.reader.specs.declared.symbol.Symbol.TheVariants.{Emit, Else, Give, RightParen, RightBrace}
 use Rattle.reader.specs.declared.symbol.Symbol.TheVariants.{Semicolon, Colon, Expr, Compared, Sum, Product}
@@ -59,13 +56,8 @@ held_again ParamsOn = refl
 held_again SomeParams = refl
 held_again Items = refl
 
-pub symbol_put : (words : List ℕ) (k : ℕ) (s : Symbol) → 3 * k + 2 < length words →
-    symbol_at (with_slot words k (slot_for s)) k ≡ s
-unfolding symbol_at
-symbol_put words k s h = ap symbol_held (slot_put words k (slot_for s) h) ∙ held_again s
-
 -- where the words of a slot are the same, so is its symbol
-pub same_symbol : (words after : List ℕ) (k : ℕ) →
+same_symbol : (words after : List ℕ) (k : ℕ) →
     ((j : ℕ) → 3 * k ≤ j → j < 3 * k + 3 → get_or after j 0 ≡ get_or words j 0) → symbol_at after k ≡ symbol_at words k
 unfolding symbol_at
 same_symbol words after k e =
@@ -76,33 +68,29 @@ same_symbol words after k e =
     ∙ ap (λ x. symbol_held (slot (get_or words (3 * k) 0) (get_or words (3 * k + 1) 0) x))
     (e (3 * k + 2) (omega arith) (omega arith))
 
+-- where the symbols of the slots are the same, so is the stack
 pub same_stack : (words after : List ℕ) (base h : ℕ) →
-    ((j : ℕ) → 3 * base ≤ j → j < 3 * (base + h) → get_or after j 0 ≡ get_or words j 0) →
+    ((k : ℕ) → base ≤ k → k < base + h → symbol_at after k ≡ symbol_at words k) →
     stack_in after base h ≡ stack_in words base h
 same_stack words after base zero e = refl
 same_stack words after base (suc h) e =
-    ap₂ (λ (s : Symbol) (k : List Symbol). s ∷ k)
-    (same_symbol words after (base + h) (λ j low high. e j (omega arith) (omega arith)))
-    (same_stack words after base h (λ j low high. e j low (omega arith)))
+    ap₂ (λ (s : Symbol) (k : List Symbol). s ∷ k) (e (base + h) (omega arith) (omega arith))
+    (same_stack words after base h (λ k low high. e k low (omega arith)))
+
+-- what is written in front of the stack leaves it
+pub stack_behind : (words after : List ℕ) (base h : ℕ) →
+    ((j : ℕ) → 3 * base ≤ j → get_or after j 0 ≡ get_or words j 0) → stack_in after base h ≡ stack_in words base h
+stack_behind words after base h e =
+    same_stack words after base h (λ k low high. same_symbol words after k (λ j l u. e j (omega arith)))
 
 -- one more on top
-pub stack_put : (words : List ℕ) (base h : ℕ) (s : Symbol) → 3 * (base + h) + 2 < length words →
-    stack_in (with_slot words (base + h) (slot_for s)) base (h + 1) ≡ s ∷ stack_in words base h
-stack_put words base h s b =
-    rw (add-one h) (ap₂ (λ (s : Symbol) (k : List Symbol). s ∷ k) (symbol_put words (base + h) s b)
-    (same_stack words (with_slot words (base + h) (slot_for s)) base h
-    (λ j low high. word_kept words (base + h) (slot_for s) j (λ e. omega arith) (λ e. omega arith) (λ e. omega arith))))
+pub stack_put : (words after : List ℕ) (base h : ℕ) (s : Symbol) → symbol_at after (base + h) ≡ s →
+    ((k : ℕ) → (k ≢ base + h) → symbol_at after k ≡ symbol_at words k) →
+    stack_in after base (h + 1) ≡ s ∷ stack_in words base h
+stack_put words after base h s top below =
+    rw (add-one h) (ap₂ (λ (s : Symbol) (k : List Symbol). s ∷ k) top
+    (same_stack words after base h (λ k low high. below k (λ e. omega arith))))
 
 pub tall : (words : List ℕ) (base h : ℕ) → length (stack_in words base h) ≡ h
 tall words base zero = refl
 tall words base (suc h) = ap suc (tall words base h)
-
--- several on top, the first of them last: those from the i-th on are there
-pub one_more : (d : Symbol) (k : List Symbol) (top low : List Symbol) (ss : List Symbol) (i : ℕ) → 0 < i → i ≤ length ss →
-    low ≡ drop i ss ++ k → top ≡ get_or ss (i - 1) d ∷ low → top ≡ drop (i - 1) ss ++ k
-one_more d k top low ss i p h e t =
-    let inside : i - 1 < length ss = omega arith in
-    let same : i - 1 + 1 ≡ i = omega arith in
-    t ∙ ap (λ (l : List Symbol). get_or ss (i - 1) d ∷ l) e
-    ∙ sym (ap (λ (l : List Symbol). l ++ k) (drop_more ss (i - 1) d inside)
-    ∙ ap (λ n. get_or ss (i - 1) d ∷ (drop n ss ++ k)) same)

@@ -1,5 +1,6 @@
 -- The reader as a machine: its symbols, its steps, its run; and what they are in words.
 pub mod Symbol
+pub mod Lists
 pub mod Reader
 pub mod Steps
 pub mod Tokens

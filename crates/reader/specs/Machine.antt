@@ -1,5 +1,5 @@
 -- The machine in words: what an action does to them, and what they hold when the text is read.
-use Rattle.std.specs.Prelude.{◌≡◌, ℕ, ◌*◌, ◌≤◌, List, [], ◌∷◌, ◌++◌, map, length, Ok, Err, Result}
+use Rattle.std.specs.Prelude.{◌≡◌, ℕ, ◌+◌, ◌*◌, ◌<◌, ◌≤◌, List, [], ◌∷◌, ◌++◌, map, length, Some, None, Option, Ok, Err, Result}
 use Rattle.std.proofs.Math.Option.{none}
 use Rattle.language.specs.Text.{reads}
 use Rattle.lexer.specs.Places.{from_place}
@@ -10,7 +10,7 @@ use Rattle.reader.specs.declared.symbol.Symbol.{Symbol}
 use Rattle.reader.specs.declared.action.Action.{Action}
 use Rattle.reader.specs.declared.action.Action.TheVariants.{Emit, Push0, Push1, Push2, Push3, Push4}
 use Rattle.reader.specs.declared.action.Action.TheVariants.{Push6, Push7, Push8}
-use Rattle.reader.specs.declared.machine.Progress.{Progress}
+use Rattle.reader.specs.declared.progress.Progress.{Progress}
 use Rattle.reader.specs.declared.error.Misread.{Misread}
 use Rattle.reader.specs.Steps.{Stands}
 use Rattle.reader.specs.Stack.{stack_in}
@@ -40,12 +40,28 @@ given (Push6 ss) = []
 given (Push7 ss) = []
 given (Push8 ss) = []
 
+-- the stack of a reading, and whether there is room for so many more symbols on it and for one instruction more
+abbrev pub stack_of : List ℕ → Progress → List Symbol
+stack_of words at = stack_in words at.base at.height
+
+abbrev pub HasRoom : List ℕ → Progress → ℕ → Type 0
+HasRoom words at n = (at.made < at.base) × (3 * (at.base + at.height + n) ≤ length words)
+
 -- the words before and after it: these symbols are on top of the stack, and these instructions behind the code
-pub record Performed (base : ℕ) (ss : List Symbol) (is : List Instr) (before : List ℕ) (at : Progress) (after : List ℕ)
-    (to : Progress) : Type 0 where
-  pub stack : stack_in after base to.height ≡ ss ++ stack_in before base at.height
+pub record Performed (ss : List Symbol) (is : List Instr) (before : List ℕ) (at : Progress) (after : List ℕ) (to : Progress) :
+    Type 0 where
+  pub base : to.base ≡ at.base
+  pub height : to.height ≡ at.height + length ss
+  pub made : to.made ≡ at.made + length is
+  pub stack : stack_of after to ≡ ss ++ stack_of before at
   pub code : (text : List ℕ) → code_in text after to.made ≡ code_in text before at.made ++ map (means text) is
   pub filled : Filled before at.made → Filled after to.made
+
+-- the symbol on top was taken, or there was none
+abbrev pub Popped : List ℕ → Progress → Option Symbol → Progress → Type 0
+Popped words at None to = (at.height ≡ 0) × (to ≡ at)
+Popped words at (Some s) to =
+    (stack_of words at ≡ s ∷ stack_of words to) × (to.height + 1 ≡ at.height) × (to.base ≡ at.base) × (to.made ≡ at.made)
 
 -- so many slots hold the code of the program that the definition reads. How many there are, and how many of them are such
 -- that a checker keeps something for them, is bounded by the text

@@ -1,10 +1,12 @@
 -- What the reader's symbols and actions in words mean, over the text that their names are places of.
 use Rattle.std.specs.Prelude.{◌≡◌, ℕ, Bool, true, false, List, [], ◌∷◌, Some, None, Ok, Err, Option as Maybe, Result, MatchOption}
-use Rattle.std.proofs.Math.Option.{some, none}
-use Rattle.language.specs.Base.{Lexeme, same}
-use Rattle.language.specs.Text.{peek, skip_one, is_number, value_of, sign_on, a_way}
+use Rattle.std.proofs.Math.Option.{Option, some, none}
+use Rattle.language.specs.Base.{Lexeme, choose, same}
+use Rattle.language.specs.Text.{peek, skip_one, is_number, value_of, a_way}
 use Rattle.language.specs.Text.{kw_else, kw_give, sg_rp, sg_rc, sg_semi, sg_colon}
 use Rattle.lexer.specs.declared.name.Name.{Name}
+use Rattle.lexer.specs.declared.token.Sign.{Sign}
+use Rattle.lexer.specs.Tokens.{drawn}
 use Rattle.lexer.specs.Spelling.{spelling}
 use Rattle.lexer.specs.Left.{Begins, Next}
 use Rattle.code.specs.Means.{means, op_number, access_of}
@@ -84,36 +86,45 @@ abbrev pub answered : List ℕ → Result Action Expected → List Lexeme → sp
 answered text (Ok a) ts = action_of text a ts
 answered text (Err e) ts = spec.fail
 
--- a name of a kind: the next lexeme, with those behind it left; or it is none
-abbrev pub Named : List ℕ → (Lexeme → Bool) → List Lexeme → Result Name Expected → List Lexeme → Type 0
-Named text ok ts (Ok name) left = (ok (peek ts) ≡ true) × (spelling text name ≡ peek ts) × (left ≡ skip_one ts)
-Named text ok ts (Err e) left = ok (peek ts) ≡ false
+-- What was read of these lexemes, with those left behind it. A name of a kind: the next lexeme; or it is none
+abbrev pub Named : List ℕ → (Lexeme → Bool) → Result Name Expected → List Lexeme → List Lexeme → Type 0
+Named text ok (Ok name) ts left = (ok (peek ts) ≡ true) × (spelling text name ≡ peek ts) × (left ≡ skip_one ts)
+Named text ok (Err e) ts left = ok (peek ts) ≡ false
 
 -- the same, where another kind of lexeme may stand as well: then nothing is read
-abbrev pub Perhaps : List ℕ → (Lexeme → Bool) → List Lexeme → Maybe Name → List Lexeme → Type 0
-Perhaps text ok ts (Some name) left = (ok (peek ts) ≡ true) × (spelling text name ≡ peek ts) × (left ≡ skip_one ts)
-Perhaps text ok ts None left = (ok (peek ts) ≡ false) × (left ≡ ts)
+abbrev pub Perhaps : List ℕ → (Lexeme → Bool) → Maybe Name → List Lexeme → List Lexeme → Type 0
+Perhaps text ok (Some name) ts left = (ok (peek ts) ≡ true) × (spelling text name ≡ peek ts) × (left ≡ skip_one ts)
+Perhaps text ok None ts left = (ok (peek ts) ≡ false) × (left ≡ ts)
 
--- that token, and those behind it are left; or it is another one
-abbrev pub Past : Lexeme → List Lexeme → Result (Unit {0}) Expected → List Lexeme → Type 0
-Past w ts (Ok u) left = (same w (peek ts) ≡ true) × (left ≡ skip_one ts)
-Past w ts (Err e) left = same w (peek ts) ≡ false
+-- that token, if it is next
+abbrev pub Accepted : Lexeme → Bool → List Lexeme → List Lexeme → Type 0
+Accepted w r ts left = (r ≡ same (peek ts) w) × (left ≡ choose r (skip_one ts) ts)
+
+-- that token; or it is another one
+abbrev pub Past : Lexeme → Result (Unit {0}) Expected → List Lexeme → List Lexeme → Type 0
+Past w (Ok u) ts left = (same w (peek ts) ≡ true) × (left ≡ skip_one ts)
+Past w (Err e) ts left = same w (peek ts) ≡ false
 
 -- a number; a word of digits that is none is an error
-abbrev pub Counted : List Lexeme → Result (Maybe ℕ) Expected → List Lexeme → Type 0
-Counted ts (Ok (Some n)) left = (is_number (peek ts) ≡ true) × (value_of (peek ts) ≡ some n) × (left ≡ skip_one ts)
-Counted ts (Ok None) left = (is_number (peek ts) ≡ false) × (left ≡ ts)
-Counted ts (Err e) left = (is_number (peek ts) ≡ true) × (value_of (peek ts) ≡ none)
+abbrev pub Counted : Result (Maybe ℕ) Expected → List Lexeme → List Lexeme → Type 0
+Counted (Ok (Some n)) ts left = (is_number (peek ts) ≡ true) × (value_of (peek ts) ≡ some n) × (left ≡ skip_one ts)
+Counted (Ok None) ts left = (is_number (peek ts) ≡ false) × (left ≡ ts)
+Counted (Err e) ts left = (is_number (peek ts) ≡ true) × (value_of (peek ts) ≡ none)
 
--- a sign of that level
-abbrev pub Joined : ℕ → List Lexeme → Maybe Operator → List Lexeme → Type 0
-Joined level ts (Some o) left = (sign_on level (peek ts) ≡ some (op_number o)) × (left ≡ skip_one ts)
-Joined level ts None left = (sign_on level (peek ts) ≡ none) × (left ≡ ts)
+-- the operator of the first of these signs that the lexeme is
+abbrev pub operator_of : List (Sign × Operator) → Lexeme → Option ℕ
+operator_of [] w = none
+operator_of (p ∷ ps) w = choose (same w (drawn p.0)) (some (op_number p.1)) (operator_of ps w)
+
+-- one of these signs, or none of them
+abbrev pub Joined : List (Sign × Operator) → Maybe Operator → List Lexeme → List Lexeme → Type 0
+Joined signs (Some o) ts left = (operator_of signs (peek ts) ≡ some (op_number o)) × (left ≡ skip_one ts)
+Joined signs None ts left = (operator_of signs (peek ts) ≡ none) × (left ≡ ts)
 
 -- how a match looks at its value
-abbrev pub Looked : List Lexeme → Maybe Access → List Lexeme → Type 0
-Looked ts (Some w) left = (a_way (peek ts) ≡ some (access_of w)) × (left ≡ skip_one ts)
-Looked ts None left = (a_way (peek ts) ≡ none) × (left ≡ ts)
+abbrev pub Looked : Maybe Access → List Lexeme → List Lexeme → Type 0
+Looked (Some w) ts left = (a_way (peek ts) ≡ some (access_of w)) × (left ≡ skip_one ts)
+Looked None ts left = (a_way (peek ts) ≡ none) × (left ≡ ts)
 
 abbrev pub none_left : List Lexeme → Bool
 none_left [] = true
@@ -122,10 +133,6 @@ none_left (t ∷ ts) = false
 -- what the token ahead says of its lexeme: a name of that kind, or none
 abbrev pub Told : List ℕ → (Lexeme → Bool) → Maybe Name → Lexeme → Type 0
 Told text ok o w = MatchOption o (ok w ≡ false) (λ name. (ok w ≡ true) × (spelling text name ≡ w))
-
--- a number with its value, a number with none, or none
-abbrev pub Valued : Maybe (Maybe ℕ) → Lexeme → Type 0
-Valued o w = MatchOption o (is_number w ≡ false) (λ v. (is_number w ≡ true) × MatchOption v (value_of w ≡ none) (λ n. value_of w ≡ some n))
 
 -- a refusal's place is where the first of these lexemes begins, or the end of the text; its token is that lexeme's
 pub record Stands (text : List ℕ) (e : Misread) (ws : List Lexeme) : Type 0 where

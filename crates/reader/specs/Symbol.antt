@@ -136,6 +136,13 @@ abbrev pub step_match : Access → Symbol → List Symbol → List Token → Act
 step_match w arms on ts =
     with_name is_lower ts (λ x r. with_token sg_lc r (λ q. push (s_emit (i_match w x) ∷ arms ∷ on) q))
 
+-- up to the closing brace of a match: its alternatives, with what each has inside and what reads those behind it
+abbrev pub step_arms : Symbol → Symbol → List Token → Action
+step_arms inside again ts =
+    choose (same (peek ts) sg_rc) (emit i_end_match (skip_one ts))
+    (with_name is_upper ts (λ c r.
+    push (s_emit (i_arm c) ∷ s_some_names ∷ s_emit i_body ∷ inside ∷ s_emit i_end_arm ∷ again ∷ []) r))
+
 abbrev pub step_assign : List Token → Action
 step_assign ts =
     with_name is_lower ts (λ x r. with_token sg_gets r
@@ -219,16 +226,10 @@ step s_names ts =
 step s_some_names ts = choose (same (peek ts) sg_lp) (push (s_names ∷ []) (skip_one ts)) (push [] ts)
 step s_stmts ts = choose (same (peek ts) sg_rc || same (peek ts) kw_give) (push [] ts) (step_stmt ts)
 step s_block ts = with_token sg_lc ts (λ r. push (s_stmts ∷ s_token sg_rc ∷ []) r)
-step s_alts ts =
-    choose (same (peek ts) sg_rc) (emit i_end_match (skip_one ts))
-    (with_name is_upper ts (λ c r.
-    push (s_emit (i_arm c) ∷ s_some_names ∷ s_emit i_body ∷ s_block ∷ s_emit i_end_arm ∷ s_alts ∷ []) r))
+step s_alts ts = step_arms s_block s_alts ts
 step s_body ts = with_token sg_lc ts (λ r. push (s_stmts ∷ s_token kw_give ∷ s_tail ∷ s_token sg_rc ∷ []) r)
 step s_tail ts = step_tail ts
-step s_arms ts =
-    choose (same (peek ts) sg_rc) (emit i_end_match (skip_one ts))
-    (with_name is_upper ts (λ c r.
-    push (s_emit (i_arm c) ∷ s_some_names ∷ s_emit i_body ∷ s_body ∷ s_emit i_end_arm ∷ s_arms ∷ []) r))
+step s_arms ts = step_arms s_body s_arms ts
 step s_type ts = step_type ts
 step s_fields ts = push (s_type ∷ s_emit i_field ∷ s_fields_on ∷ []) ts
 step s_fields_on ts =

@@ -14,6 +14,10 @@ text_of c = lexer.text_of c.lexer
 unfoldable pub tokens : Cursor → List Lexeme
 tokens c = lexer.left c.lexer
 
+-- so much was read of a cursor's lexemes, and its text is the same
+abbrev pub Reads : Cursor → Cursor → (List Lexeme → List Lexeme → Type 0) → Type 0
+Reads before after how = how (tokens before) (tokens after) × (text_of after ≡ text_of before)
+
 -- the answer of a step, with the lexemes that it leaves, is what the definition of the step says of those before it
 abbrev pub Does : Cursor → Cursor → Result Action Expected → (List Lexeme → spec.Action) → Type 0
-Does before after r says = answered (text_of before) r (tokens after) ≡ says (tokens before)
+Does before after r says = Reads before after (λ ts left. answered (text_of before) r left ≡ says ts)

@@ -1,75 +1,82 @@
-ghost use Rattle.std.specs.Prelude.{◌≡◌};
-ghost use Rattle.lexer.specs.Asks.{sign_number, keyword_number, sign_ahead, keyword_ahead, lower_ahead, upper_ahead, number_ahead};
+ghost use Rattle.std.specs.Prelude.{◌≡◌, ℕ, Bool, List, Option};
+ghost use Rattle.language.specs.Base.{Lexeme, same};
+ghost use Rattle.language.specs.Text.{peek};
+ghost use Rattle.lexer.specs.Left.{Next};
+ghost use Rattle.lexer.specs.Tokens.{spelled, drawn};
+ghost use Rattle.lexer.specs.Asks.{sign_ahead, keyword_ahead, lower_ahead, upper_ahead};
+ghost use Rattle.lexer.specs.declared.token.Token.{Token as TokenOf};
+ghost use Rattle.lexer.proofs.Asks.{asks_sign, asks_keyword};
 
+use super::error::Expected;
 use lexer::{Keyword, Name, Sign, Token};
 
 // Questions to the token ahead of a cursor.
 
-fn sign_number(s: Sign) -> u8
-    ensures { result ≡ sign_number s }
-{
-    s as u8
+// What the grammar spells out: a sign or a keyword.
+pub trait Asked: Copy {
+    ghost lexeme: { Self → Lexeme };
+
+    ghost ahead: { Option TokenOf → Self → Bool };
+
+    // Whether it is this token.
+    fn is_ahead(self, token: Option<Token>) -> bool
+        ensures { result ≡ ahead token self };
+
+    // What is said to be missing where it has to stand and doesn't.
+    fn expected(self) -> Expected;
+
+    // Where the token is that of the first lexeme, it is asked for exactly where the lexeme is spelled that way.
+    ghost tells: { (text : List ℕ) (o : Option TokenOf) (ws : List Lexeme) → Next text o ws → (x : Self) → same (peek ws) (lexeme x) ≡ ahead o x };
 }
 
-fn keyword_number(k: Keyword) -> u8
-    ensures { result ≡ keyword_number k }
-{
-    k as u8
-}
+impl Asked for Sign {
+    ghost lexeme = { drawn };
 
-pub fn is_sign(token: Option<Token>, s: Sign) -> bool
-    ensures { result ≡ sign_ahead token s }
-{
-    match token {
-        Some(Token::Mark(t)) => sign_number(t) == sign_number(s),
-        Some(Token::Reserved(_) | Token::Lower(_) | Token::Upper(_)) => false,
-        Some(Token::Number(_) | Token::BadNumber | Token::Other) => false,
-        None => false,
+    ghost ahead = { sign_ahead };
+
+    ghost tells = { asks_sign };
+
+    fn is_ahead(self, token: Option<Token>) -> bool {
+        token == Some(Token::Mark(self))
+    }
+
+    fn expected(self) -> Expected {
+        Expected::Sign(self)
     }
 }
 
-pub fn is_keyword(token: Option<Token>, k: Keyword) -> bool
-    ensures { result ≡ keyword_ahead token k }
-{
-    match token {
-        Some(Token::Reserved(t)) => keyword_number(t) == keyword_number(k),
-        Some(Token::Mark(_) | Token::Lower(_) | Token::Upper(_)) => false,
-        Some(Token::Number(_) | Token::BadNumber | Token::Other) => false,
-        None => false,
+impl Asked for Keyword {
+    ghost lexeme = { spelled };
+
+    ghost ahead = { keyword_ahead };
+
+    ghost tells = { asks_keyword };
+
+    fn is_ahead(self, token: Option<Token>) -> bool {
+        token == Some(Token::Reserved(self))
+    }
+
+    fn expected(self) -> Expected {
+        Expected::Keyword(self)
     }
 }
 
 pub fn lower(token: Option<Token>) -> Option<Name>
     ensures { result ≡ lower_ahead token }
 {
-    match token {
-        Some(Token::Lower(x)) => Some(x),
-        Some(Token::Reserved(_) | Token::Mark(_) | Token::Upper(_)) => None,
-        Some(Token::Number(_) | Token::BadNumber | Token::Other) => None,
-        None => None,
+    match token? {
+        Token::Lower(x) => Some(x),
+        Token::Reserved(_) | Token::Mark(_) | Token::Upper(_) => None,
+        Token::Number(_) | Token::BadNumber | Token::Other => None,
     }
 }
 
 pub fn upper(token: Option<Token>) -> Option<Name>
     ensures { result ≡ upper_ahead token }
 {
-    match token {
-        Some(Token::Upper(x)) => Some(x),
-        Some(Token::Reserved(_) | Token::Mark(_) | Token::Lower(_)) => None,
-        Some(Token::Number(_) | Token::BadNumber | Token::Other) => None,
-        None => None,
-    }
-}
-
-pub fn number(token: Option<Token>) -> Option<Option<u64>>
-    ensures { result ≡ number_ahead token }
-{
-    match token {
-        Some(Token::Number(n)) => Some(Some(n)),
-        Some(Token::BadNumber) => Some(None),
-        Some(
-            Token::Reserved(_) | Token::Mark(_) | Token::Lower(_) | Token::Upper(_) | Token::Other,
-        ) => None,
-        None => None,
+    match token? {
+        Token::Upper(x) => Some(x),
+        Token::Reserved(_) | Token::Mark(_) | Token::Lower(_) => None,
+        Token::Number(_) | Token::BadNumber | Token::Other => None,
     }
 }

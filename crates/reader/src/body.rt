@@ -1,7 +1,7 @@
 ghost use Rattle.std.specs.Prelude.{◌≡◌};
 ghost use Rattle.reader.specs.Symbol.{step};
 ghost use Rattle.reader.specs.Symbol.{s_block, s_body, s_tail};
-ghost use Rattle.reader.specs.Tokens.{text_of, Does};
+ghost use Rattle.reader.specs.Tokens.{Does};
 
 use super::action::Action;
 use super::cursor::Cursor;
@@ -13,19 +13,17 @@ use lexer::{Keyword, Sign};
 
 // Statements in braces.
 pub fn block(c: &mut Cursor) -> Result<Action, Expected>
-    ensures does { Does c.old c.new result (step s_block) }
-    ensures text { text_of c.new ≡ text_of c.old }
+    ensures { Does c.old c.new result (step s_block) }
 {
-    c.expect_sign(Sign::LeftBrace)?;
+    c.expect(Sign::LeftBrace)?;
     Ok(Action::Push2([Symbol::Stmts, Symbol::RightBrace]))
 }
 
 // A function's body, or one of its parts.
 pub fn body(c: &mut Cursor) -> Result<Action, Expected>
-    ensures does { Does c.old c.new result (step s_body) }
-    ensures text { text_of c.new ≡ text_of c.old }
+    ensures { Does c.old c.new result (step s_body) }
 {
-    c.expect_sign(Sign::LeftBrace)?;
+    c.expect(Sign::LeftBrace)?;
     Ok(Action::Push4([
         Symbol::Stmts,
         Symbol::Give,
@@ -36,10 +34,9 @@ pub fn body(c: &mut Cursor) -> Result<Action, Expected>
 
 // What a body gives.
 pub fn tail(c: &mut Cursor) -> Result<Action, Expected>
-    ensures does { Does c.old c.new result (step s_tail) }
-    ensures text { text_of c.new ≡ text_of c.old }
+    ensures { Does c.old c.new result (step s_tail) }
 {
-    if c.accept_keyword(Keyword::If) {
+    if c.accept(Keyword::If) {
         return Ok(Action::Push7([
             Symbol::Expr,
             Symbol::Emit(Instr::If),

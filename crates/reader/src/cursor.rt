@@ -1,14 +1,13 @@
 ghost use Rattle.std.specs.Prelude.{◌≡◌};
-ghost use Rattle.language.specs.Base.{same, choose};
+ghost use Rattle.language.specs.Base.{same};
 ghost use Rattle.language.specs.Text.{peek, skip_one, is_lower, is_upper, tokenize, idle};
 ghost use Rattle.lexer.specs.Left.{Next};
-ghost use Rattle.lexer.specs.Tokens.{spelled, drawn};
-ghost use Rattle.reader.specs.Steps.{Told, Valued, Named, Perhaps, Past, Counted, Stands, none_left};
-ghost use Rattle.reader.specs.Tokens.{text_of, tokens};
+ghost use Rattle.reader.specs.Steps.{Told, Named, Perhaps, Accepted, Past, Counted, Stands, none_left};
+ghost use Rattle.reader.specs.Tokens.{text_of, tokens, Reads};
 
-use super::ahead;
+use super::ahead::{self, Asked};
 use super::error::{Expected, Misread};
-use lexer::{Keyword, Lexer, Name, Sign, Token};
+use lexer::{Lexer, Name, Token};
 
 // A text, and how far it has been read. What accepts a token goes past it if it is ahead; what expects one refuses any other.
 #[derive(Drop)]
@@ -17,6 +16,7 @@ pub struct Cursor<'a> {
 }
 
 impl<'a> Cursor<'a> {
+    #[tactic(auto, unfolding(crate::specs::Tokens::tokens))]
     pub fn new(text: &'a [u8]) -> Self
         ensures text { text_of result ≡ text.now }
         ensures all { tokens result ≡ tokenize idle text.now }
@@ -26,20 +26,22 @@ impl<'a> Cursor<'a> {
         }
     }
 
+    #[tactic(auto, unfolding(crate::specs::Tokens::tokens))]
     fn token(&self) -> Option<Token>
         ensures { Next (text_of self.now) result (tokens self.now) }
     {
         self.lexer.peek()
     }
 
+    #[tactic(auto, unfolding(crate::specs::Tokens::tokens))]
     fn advance(&mut self)
-        ensures gone { tokens self.new ≡ skip_one (tokens self.old) }
-        ensures text { text_of self.new ≡ text_of self.old }
+        ensures { Reads self.old self.new (λ ts left. left ≡ skip_one ts) }
     {
         let _ = self.lexer.next();
     }
 
     // The token ahead is none that may stand there.
+    #[tactic(auto, unfolding(crate::specs::Tokens::tokens))]
     pub fn misread(&self, expected: Expected) -> Misread
         ensures { Stands (text_of self.now) result (tokens self.now) }
     {
@@ -56,63 +58,38 @@ impl<'a> Cursor<'a> {
         self.token().is_none()
     }
 
-    pub fn at_sign(&self, s: Sign) -> bool
-        ensures { result ≡ same (peek (tokens self.now)) (drawn s) }
+    pub fn at<T: Asked>(&self, asked: T) -> bool
+        ensures { result ≡ same (peek (tokens self.now)) (T.lexeme asked) }
     {
-        ahead::is_sign(self.token(), s)
+        asked.is_ahead(self.token())
     }
 
-    pub fn at_keyword(&self, k: Keyword) -> bool
-        ensures { result ≡ same (peek (tokens self.now)) (spelled k) }
-    {
-        ahead::is_keyword(self.token(), k)
-    }
-
+    #[tactic(auto, using(lexer::proofs::Asks::asks_lower))]
     fn lower_ahead(&self) -> Option<Name>
         ensures { Told (text_of self.now) is_lower result (peek (tokens self.now)) }
     {
         ahead::lower(self.token())
     }
 
+    #[tactic(auto, using(lexer::proofs::Asks::asks_upper))]
     fn upper_ahead(&self) -> Option<Name>
         ensures { Told (text_of self.now) is_upper result (peek (tokens self.now)) }
     {
         ahead::upper(self.token())
     }
 
-    fn number_ahead(&self) -> Option<Option<u64>>
-        ensures { Valued result (peek (tokens self.now)) }
+    pub fn accept<T: Asked>(&mut self, asked: T) -> bool
+        ensures { Reads self.old self.new (Accepted (T.lexeme asked) result) }
     {
-        ahead::number(self.token())
-    }
-
-    pub fn accept_sign(&mut self, s: Sign) -> bool
-        ensures test { result ≡ same (peek (tokens self.old)) (drawn s) }
-        ensures gone { tokens self.new ≡ choose result (skip_one (tokens self.old)) (tokens self.old) }
-        ensures text { text_of self.new ≡ text_of self.old }
-    {
-        if self.at_sign(s) {
+        let is_next = self.at(asked);
+        if is_next {
             self.advance();
-            return true;
         }
-        false
-    }
-
-    pub fn accept_keyword(&mut self, k: Keyword) -> bool
-        ensures test { result ≡ same (peek (tokens self.old)) (spelled k) }
-        ensures gone { tokens self.new ≡ choose result (skip_one (tokens self.old)) (tokens self.old) }
-        ensures text { text_of self.new ≡ text_of self.old }
-    {
-        if self.at_keyword(k) {
-            self.advance();
-            return true;
-        }
-        false
+        is_next
     }
 
     pub fn accept_upper(&mut self) -> Option<Name>
-        ensures got { Perhaps (text_of self.old) is_upper (tokens self.old) result (tokens self.new) }
-        ensures text { text_of self.new ≡ text_of self.old }
+        ensures { Reads self.old self.new (Perhaps (text_of self.old) is_upper result) }
     {
         let name = self.upper_ahead()?;
         self.advance();
@@ -121,62 +98,43 @@ impl<'a> Cursor<'a> {
 
     // A number, if one is ahead; one with no value below 2^64 is refused.
     pub fn accept_number(&mut self) -> Result<Option<u64>, Expected>
-        ensures got { Counted (tokens self.old) result (tokens self.new) }
-        ensures text { text_of self.new ≡ text_of self.old }
+        ensures { Reads self.old self.new (Counted result) }
     {
-        match self.number_ahead() {
-            Some(Some(n)) => {
+        match self.token() {
+            Some(Token::Number(n)) => {
                 self.advance();
                 Ok(Some(n))
             }
-            Some(None) => Err(Expected::SmallNumber),
-            None => Ok(None),
+            Some(Token::BadNumber) => Err(Expected::SmallNumber),
+            Some(Token::Reserved(_) | Token::Mark(_) | Token::Lower(_) | Token::Upper(_)) => Ok(
+                None,
+            ),
+            Some(Token::Other) | None => Ok(None),
         }
     }
 
-    pub fn expect_sign(&mut self, s: Sign) -> Result<(), Expected>
-        ensures past { Past (drawn s) (tokens self.old) result (tokens self.new) }
-        ensures text { text_of self.new ≡ text_of self.old }
+    pub fn expect<T: Asked>(&mut self, asked: T) -> Result<(), Expected>
+        ensures { Reads self.old self.new (Past (T.lexeme asked) result) }
     {
-        if self.accept_sign(s) {
+        if self.accept(asked) {
             Ok(())
         } else {
-            Err(Expected::Sign(s))
-        }
-    }
-
-    pub fn expect_keyword(&mut self, k: Keyword) -> Result<(), Expected>
-        ensures past { Past (spelled k) (tokens self.old) result (tokens self.new) }
-        ensures text { text_of self.new ≡ text_of self.old }
-    {
-        if self.accept_keyword(k) {
-            Ok(())
-        } else {
-            Err(Expected::Keyword(k))
+            Err(asked.expected())
         }
     }
 
     // A name with a small letter, where the grammar has that or more.
     pub fn lower(&mut self, expected: Expected) -> Result<Name, Expected>
-        ensures got { Named (text_of self.old) is_lower (tokens self.old) result (tokens self.new) }
-        ensures text { text_of self.new ≡ text_of self.old }
+        ensures { Reads self.old self.new (Named (text_of self.old) is_lower result) }
     {
-        match self.lower_ahead() {
-            Some(name) => {
-                self.advance();
-                Ok(name)
-            }
-            None => Err(expected),
-        }
+        let name = self.lower_ahead().ok_or(expected)?;
+        self.advance();
+        Ok(name)
     }
 
     pub fn upper(&mut self) -> Result<Name, Expected>
-        ensures got { Named (text_of self.old) is_upper (tokens self.old) result (tokens self.new) }
-        ensures text { text_of self.new ≡ text_of self.old }
+        ensures { Reads self.old self.new (Named (text_of self.old) is_upper result) }
     {
-        match self.accept_upper() {
-            Some(name) => Ok(name),
-            None => Err(Expected::Constructor),
-        }
+        self.accept_upper().ok_or(Expected::Constructor)
     }
 }

@@ -2,7 +2,7 @@ ghost use Rattle.std.specs.Prelude.{◌≡◌};
 ghost use Rattle.reader.specs.Symbol.{step, s_compared, s_more_sum, s_more_product, s_primary, s_args_on};
 ghost use Rattle.reader.specs.Symbol.{step_loan, step_atom, step_make, step_use, step_prefixed};
 ghost use Rattle.reader.specs.Steps.{Joined};
-ghost use Rattle.reader.specs.Tokens.{text_of, tokens, Does};
+ghost use Rattle.reader.specs.Tokens.{text_of, Reads, Does};
 ghost use Rattle.lexer.specs.Spelling.{spelling};
 
 use super::action::Action;
@@ -12,57 +12,37 @@ use super::symbol::Symbol;
 use code::{Instr, Operator};
 use lexer::{Keyword, Name, Sign};
 
-// The sign of a comparison, if one is next.
-fn comparison(c: &mut Cursor) -> Option<Operator>
-    ensures reads { Joined 1 (tokens c.old) result (tokens c.new) }
-    ensures text { text_of c.new ≡ text_of c.old }
+// The operator of the first of these signs that is next, if one of them is.
+fn operator(c: &mut Cursor, signs: &[(Sign, Operator)]) -> Option<Operator>
+    ensures { Reads c.old c.new (Joined signs.now result) }
 {
-    if c.accept_sign(Sign::Equal) {
-        return Some(Operator::Equal);
-    }
-    if c.accept_sign(Sign::Less) {
-        return Some(Operator::Less);
+    for &(sign, operator) in signs {
+        if c.accept(sign) {
+            return Some(operator);
+        }
     }
     None
 }
 
-// The sign of a sum, if one is next.
-fn addition(c: &mut Cursor) -> Option<Operator>
-    ensures reads { Joined 2 (tokens c.old) result (tokens c.new) }
-    ensures text { text_of c.new ≡ text_of c.old }
-{
-    if c.accept_sign(Sign::Plus) {
-        return Some(Operator::Add);
-    }
-    if c.accept_sign(Sign::Minus) {
-        return Some(Operator::Sub);
-    }
-    None
-}
+// The signs between two operands: of a comparison, a sum and a product.
+const COMPARISONS: [(Sign, Operator); 2] = [
+    (Sign::Equal, Operator::Equal),
+    (Sign::Less, Operator::Less),
+];
 
-// The sign of a product, if one is next.
-fn multiplication(c: &mut Cursor) -> Option<Operator>
-    ensures reads { Joined 3 (tokens c.old) result (tokens c.new) }
-    ensures text { text_of c.new ≡ text_of c.old }
-{
-    if c.accept_sign(Sign::Star) {
-        return Some(Operator::Mul);
-    }
-    if c.accept_sign(Sign::Slash) {
-        return Some(Operator::Div);
-    }
-    if c.accept_sign(Sign::Percent) {
-        return Some(Operator::Rem);
-    }
-    None
-}
+const SUMS: [(Sign, Operator); 2] = [(Sign::Plus, Operator::Add), (Sign::Minus, Operator::Sub)];
+
+const PRODUCTS: [(Sign, Operator); 3] = [
+    (Sign::Star, Operator::Mul),
+    (Sign::Slash, Operator::Div),
+    (Sign::Percent, Operator::Rem),
+];
 
 // Behind a sum: one comparison, or none.
 pub fn compared(c: &mut Cursor) -> Result<Action, Expected>
-    ensures does { Does c.old c.new result (step s_compared) }
-    ensures text { text_of c.new ≡ text_of c.old }
+    ensures { Does c.old c.new result (step s_compared) }
 {
-    match comparison(c) {
+    match operator(c, &COMPARISONS) {
         Some(o) => Ok(Action::Push3([
             Symbol::Emit(Instr::Int),
             Symbol::Sum,
@@ -74,10 +54,9 @@ pub fn compared(c: &mut Cursor) -> Result<Action, Expected>
 
 // Behind a product in a sum: another one, or none.
 pub fn more_sum(c: &mut Cursor) -> Result<Action, Expected>
-    ensures does { Does c.old c.new result (step s_more_sum) }
-    ensures text { text_of c.new ≡ text_of c.old }
+    ensures { Does c.old c.new result (step s_more_sum) }
 {
-    match addition(c) {
+    match operator(c, &SUMS) {
         Some(o) => Ok(Action::Push4([
             Symbol::Emit(Instr::Int),
             Symbol::Product,
@@ -90,10 +69,9 @@ pub fn more_sum(c: &mut Cursor) -> Result<Action, Expected>
 
 // Behind a factor of a product: another one, or none.
 pub fn more_product(c: &mut Cursor) -> Result<Action, Expected>
-    ensures does { Does c.old c.new result (step s_more_product) }
-    ensures text { text_of c.new ≡ text_of c.old }
+    ensures { Does c.old c.new result (step s_more_product) }
 {
-    match multiplication(c) {
+    match operator(c, &PRODUCTS) {
         Some(o) => Ok(Action::Push4([
             Symbol::Emit(Instr::Int),
             Symbol::Factor,
@@ -106,10 +84,9 @@ pub fn more_product(c: &mut Cursor) -> Result<Action, Expected>
 
 // Behind &: a name that is lent, to be changed or only seen.
 fn loan(c: &mut Cursor) -> Result<Action, Expected>
-    ensures does { Does c.old c.new result step_loan }
-    ensures text { text_of c.new ≡ text_of c.old }
+    ensures { Does c.old c.new result step_loan }
 {
-    if c.accept_keyword(Keyword::Mut) {
+    if c.accept(Keyword::Mut) {
         let x = c.lower(Expected::Name)?;
         return Ok(Action::Emit(Instr::Lend(x)));
     }
@@ -119,10 +96,9 @@ fn loan(c: &mut Cursor) -> Result<Action, Expected>
 
 // A constructor, with its arguments or with none.
 fn made(c: &mut Cursor, ctor: Name) -> Result<Action, Expected>
-    ensures does { Does c.old c.new result (step_make (spelling (text_of c.old) ctor)) }
-    ensures text { text_of c.new ≡ text_of c.old }
+    ensures { Does c.old c.new result (step_make (spelling (text_of c.old) ctor)) }
 {
-    if c.accept_sign(Sign::LeftParen) {
+    if c.accept(Sign::LeftParen) {
         return Ok(Action::Push2([Symbol::Emit(Instr::Make(ctor)), Symbol::Args]));
     }
     Ok(Action::Push2([Symbol::Emit(Instr::Make(ctor)), Symbol::Emit(Instr::Apply)]))
@@ -130,13 +106,12 @@ fn made(c: &mut Cursor, ctor: Name) -> Result<Action, Expected>
 
 // A variable, or a function with its arguments.
 fn used(c: &mut Cursor, name: Name) -> Result<Action, Expected>
-    ensures does { Does c.old c.new result (step_use (spelling (text_of c.old) name)) }
-    ensures text { text_of c.new ≡ text_of c.old }
+    ensures { Does c.old c.new result (step_use (spelling (text_of c.old) name)) }
 {
-    if !c.accept_sign(Sign::LeftParen) {
+    if !c.accept(Sign::LeftParen) {
         return Ok(Action::Emit(Instr::Var(name)));
     }
-    if c.accept_sign(Sign::RightParen) {
+    if c.accept(Sign::RightParen) {
         return Ok(Action::Push2([Symbol::Emit(Instr::Call(name)), Symbol::Emit(Instr::Apply)]));
     }
     Ok(Action::Push2([Symbol::Emit(Instr::Call(name)), Symbol::Args]))
@@ -144,8 +119,7 @@ fn used(c: &mut Cursor, name: Name) -> Result<Action, Expected>
 
 // A number, or what begins with a name.
 fn atom(c: &mut Cursor) -> Result<Action, Expected>
-    ensures does { Does c.old c.new result step_atom }
-    ensures text { text_of c.new ≡ text_of c.old }
+    ensures { Does c.old c.new result step_atom }
 {
     if let Some(n) = c.accept_number()? {
         return Ok(Action::Emit(Instr::Num(n)));
@@ -159,17 +133,16 @@ fn atom(c: &mut Cursor) -> Result<Action, Expected>
 
 // What begins with *, & or box, or an atom.
 fn prefixed(c: &mut Cursor) -> Result<Action, Expected>
-    ensures does { Does c.old c.new result step_prefixed }
-    ensures text { text_of c.new ≡ text_of c.old }
+    ensures { Does c.old c.new result step_prefixed }
 {
-    if c.accept_sign(Sign::Star) {
+    if c.accept(Sign::Star) {
         let x = c.lower(Expected::Name)?;
         return Ok(Action::Emit(Instr::Load(x)));
     }
-    if c.accept_sign(Sign::And) {
+    if c.accept(Sign::And) {
         return loan(c);
     }
-    if c.accept_keyword(Keyword::Box) {
+    if c.accept(Keyword::Box) {
         return Ok(Action::Push2([Symbol::Primary, Symbol::Emit(Instr::Box)]));
     }
     atom(c)
@@ -177,13 +150,12 @@ fn prefixed(c: &mut Cursor) -> Result<Action, Expected>
 
 // The smallest expressions.
 pub fn primary(c: &mut Cursor) -> Result<Action, Expected>
-    ensures does { Does c.old c.new result (step s_primary) }
-    ensures text { text_of c.new ≡ text_of c.old }
+    ensures { Does c.old c.new result (step s_primary) }
 {
-    if c.accept_sign(Sign::LeftParen) {
+    if c.accept(Sign::LeftParen) {
         return Ok(Action::Push2([Symbol::Expr, Symbol::RightParen]));
     }
-    if c.accept_keyword(Keyword::Get) {
+    if c.accept(Keyword::Get) {
         return Ok(Action::Emit(Instr::Get));
     }
     prefixed(c)
@@ -191,12 +163,11 @@ pub fn primary(c: &mut Cursor) -> Result<Action, Expected>
 
 // Behind an argument: another one, or the end.
 pub fn args_on(c: &mut Cursor) -> Result<Action, Expected>
-    ensures does { Does c.old c.new result (step s_args_on) }
-    ensures text { text_of c.new ≡ text_of c.old }
+    ensures { Does c.old c.new result (step s_args_on) }
 {
-    if c.accept_sign(Sign::Comma) {
+    if c.accept(Sign::Comma) {
         return Ok(Action::Push1([Symbol::Args]));
     }
-    c.expect_sign(Sign::RightParen)?;
+    c.expect(Sign::RightParen)?;
     Ok(Action::Emit(Instr::Apply))
 }

@@ -1,6 +1,5 @@
 ghost use Rattle.std.specs.Prelude.{◌≡◌};
-ghost use Rattle.reader.specs.Symbol.{step, step_data, step_fn, step_item, s_type, s_fields_on, s_some_fields, s_ctors};
-ghost use Rattle.reader.specs.Symbol.{s_ctors_on, s_params, s_params_on, s_some_params, s_drop, s_items};
+ghost use Rattle.reader.specs.Symbol.{step, step_data, step_fn, step_item, s_type, s_ctors, s_params, s_some_params, s_drop, s_items};
 ghost use Rattle.reader.specs.Tokens.{text_of, Does};
 ghost use Rattle.lexer.specs.Spelling.{spelling};
 
@@ -13,52 +12,27 @@ use lexer::{Keyword, Name, Sign};
 
 // A type: int, the name of data, or box, ref or mut and a type.
 pub fn ty(c: &mut Cursor) -> Result<Action, Expected>
-    ensures does { Does c.old c.new result (step s_type) }
-    ensures text { text_of c.new ≡ text_of c.old }
+    ensures { Does c.old c.new result (step s_type) }
 {
-    if c.accept_keyword(Keyword::Int) {
+    if c.accept(Keyword::Int) {
         return Ok(Action::Emit(Instr::TyInt));
     }
-    if c.accept_keyword(Keyword::Box) {
+    if c.accept(Keyword::Box) {
         return Ok(Action::Push2([Symbol::Ty, Symbol::Emit(Instr::TyBox)]));
     }
-    if c.accept_keyword(Keyword::Ref) {
+    if c.accept(Keyword::Ref) {
         return Ok(Action::Push2([Symbol::Ty, Symbol::Emit(Instr::TyRef)]));
     }
-    if c.accept_keyword(Keyword::Mut) {
+    if c.accept(Keyword::Mut) {
         return Ok(Action::Push2([Symbol::Ty, Symbol::Emit(Instr::TyMut)]));
     }
     let name = c.lower(Expected::Type)?;
     Ok(Action::Emit(Instr::TyData(name)))
 }
 
-// Behind a field's type: another one, or the end.
-pub fn fields_on(c: &mut Cursor) -> Result<Action, Expected>
-    ensures does { Does c.old c.new result (step s_fields_on) }
-    ensures text { text_of c.new ≡ text_of c.old }
-{
-    if c.accept_sign(Sign::Comma) {
-        return Ok(Action::Push1([Symbol::Fields]));
-    }
-    c.expect_sign(Sign::RightParen)?;
-    Ok(Action::Push0)
-}
-
-// A constructor's fields in their bracket, or none.
-pub fn some_fields(c: &mut Cursor) -> Result<Action, Expected>
-    ensures does { Does c.old c.new result (step s_some_fields) }
-    ensures text { text_of c.new ≡ text_of c.old }
-{
-    if c.accept_sign(Sign::LeftParen) {
-        return Ok(Action::Push1([Symbol::Fields]));
-    }
-    Ok(Action::Push0)
-}
-
 // A constructor, and those behind it.
 pub fn ctors(c: &mut Cursor) -> Result<Action, Expected>
-    ensures does { Does c.old c.new result (step s_ctors) }
-    ensures text { text_of c.new ≡ text_of c.old }
+    ensures { Does c.old c.new result (step s_ctors) }
 {
     let ctor = c.upper()?;
     Ok(Action::Push3([
@@ -68,45 +42,20 @@ pub fn ctors(c: &mut Cursor) -> Result<Action, Expected>
     ]))
 }
 
-// Behind a constructor: another one, or none.
-pub fn ctors_on(c: &mut Cursor) -> Result<Action, Expected>
-    ensures does { Does c.old c.new result (step s_ctors_on) }
-    ensures text { text_of c.new ≡ text_of c.old }
-{
-    if c.accept_sign(Sign::Bar) {
-        return Ok(Action::Push1([Symbol::Ctors]));
-    }
-    Ok(Action::Push0)
-}
-
 // A parameter, and those behind it.
 pub fn params(c: &mut Cursor) -> Result<Action, Expected>
-    ensures does { Does c.old c.new result (step s_params) }
-    ensures text { text_of c.new ≡ text_of c.old }
+    ensures { Does c.old c.new result (step s_params) }
 {
     let x = c.lower(Expected::Name)?;
-    c.expect_sign(Sign::Colon)?;
+    c.expect(Sign::Colon)?;
     Ok(Action::Push3([Symbol::Ty, Symbol::Emit(Instr::Param(x)), Symbol::ParamsOn]))
-}
-
-// Behind a parameter: another one, or the end.
-pub fn params_on(c: &mut Cursor) -> Result<Action, Expected>
-    ensures does { Does c.old c.new result (step s_params_on) }
-    ensures text { text_of c.new ≡ text_of c.old }
-{
-    if c.accept_sign(Sign::Comma) {
-        return Ok(Action::Push1([Symbol::Params]));
-    }
-    c.expect_sign(Sign::RightParen)?;
-    Ok(Action::Push0)
 }
 
 // A function's parameters behind the bracket, or none.
 pub fn some_params(c: &mut Cursor) -> Result<Action, Expected>
-    ensures does { Does c.old c.new result (step s_some_params) }
-    ensures text { text_of c.new ≡ text_of c.old }
+    ensures { Does c.old c.new result (step s_some_params) }
 {
-    if c.accept_sign(Sign::RightParen) {
+    if c.accept(Sign::RightParen) {
         return Ok(Action::Push0);
     }
     Ok(Action::Push1([Symbol::Params]))
@@ -114,10 +63,9 @@ pub fn some_params(c: &mut Cursor) -> Result<Action, Expected>
 
 // The end of data: the function that is called when it is dropped, or none.
 pub fn data_end(c: &mut Cursor, name: Name) -> Result<Action, Expected>
-    ensures does { Does c.old c.new result (step (s_drop (spelling (text_of c.old) name))) }
-    ensures text { text_of c.new ≡ text_of c.old }
+    ensures { Does c.old c.new result (step (s_drop (spelling (text_of c.old) name))) }
 {
-    if c.accept_keyword(Keyword::Drop) {
+    if c.accept(Keyword::Drop) {
         let last = c.lower(Expected::Name)?;
         return Ok(Action::Push2([
             Symbol::Semicolon,
@@ -129,21 +77,19 @@ pub fn data_end(c: &mut Cursor, name: Name) -> Result<Action, Expected>
 
 // Behind data.
 fn data_item(c: &mut Cursor) -> Result<Action, Expected>
-    ensures does { Does c.old c.new result step_data }
-    ensures text { text_of c.new ≡ text_of c.old }
+    ensures { Does c.old c.new result step_data }
 {
     let name = c.lower(Expected::Name)?;
-    c.expect_sign(Sign::Gets)?;
+    c.expect(Sign::Gets)?;
     Ok(Action::Push3([Symbol::Ctors, Symbol::DataEnd(name), Symbol::Items]))
 }
 
 // Behind fn.
 fn fn_item(c: &mut Cursor) -> Result<Action, Expected>
-    ensures does { Does c.old c.new result step_fn }
-    ensures text { text_of c.new ≡ text_of c.old }
+    ensures { Does c.old c.new result step_fn }
 {
     let name = c.lower(Expected::Name)?;
-    c.expect_sign(Sign::LeftParen)?;
+    c.expect(Sign::LeftParen)?;
     Ok(Action::Push7([
         Symbol::SomeParams,
         Symbol::Colon,
@@ -157,13 +103,12 @@ fn fn_item(c: &mut Cursor) -> Result<Action, Expected>
 
 // Data or a function.
 fn item(c: &mut Cursor) -> Result<Action, Expected>
-    ensures does { Does c.old c.new result step_item }
-    ensures text { text_of c.new ≡ text_of c.old }
+    ensures { Does c.old c.new result step_item }
 {
-    if c.accept_keyword(Keyword::Data) {
+    if c.accept(Keyword::Data) {
         return data_item(c);
     }
-    if c.accept_keyword(Keyword::Fn) {
+    if c.accept(Keyword::Fn) {
         return fn_item(c);
     }
     Err(Expected::Item)
@@ -171,8 +116,7 @@ fn item(c: &mut Cursor) -> Result<Action, Expected>
 
 // The items, up to the text's end.
 pub fn items(c: &mut Cursor) -> Result<Action, Expected>
-    ensures does { Does c.old c.new result (step s_items) }
-    ensures text { text_of c.new ≡ text_of c.old }
+    ensures { Does c.old c.new result (step s_items) }
 {
     if c.at_end() {
         return Ok(Action::Push0);

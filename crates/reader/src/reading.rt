@@ -23,20 +23,14 @@ pub struct Code {
 pub fn least_words(bytes: usize) -> Option<usize>
     ensures { SomeIff result (65536 + 64 * bytes < 2 ^ 64) (65536 + 64 * bytes) }
 {
-    if bytes > (usize::MAX - FIXED_WORDS) / WORDS_PER_BYTE {
-        return None;
-    }
-    Some(FIXED_WORDS + WORDS_PER_BYTE * bytes)
+    WORDS_PER_BYTE.checked_mul(bytes)?.checked_add(FIXED_WORDS)
 }
 
 // Whether so many words are enough for a text of so many bytes.
 fn is_enough(words: usize, bytes: usize) -> bool
     ensures { result ≡ nat_le (65536 + 64 * bytes) words }
 {
-    match least_words(bytes) {
-        Some(least) => least <= words,
-        None => false,
-    }
+    least_words(bytes).is_some_and(|least| least <= words)
 }
 
 // Reads a text into code, in the words that are lent.

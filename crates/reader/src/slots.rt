@@ -1,6 +1,5 @@
 ghost use Rattle.std.specs.Prelude.{◌≡◌};
-ghost use Rattle.code.specs.Slots.{slot};
-ghost use Rattle.reader.specs.Stack.{slot_for, symbol_held, plain_symbol, emit_held};
+ghost use Rattle.reader.specs.Stack.{slot_for, symbol_held, plain_symbol};
 
 use super::symbol::Symbol;
 use code::{Instr, Slot};
@@ -8,16 +7,6 @@ use lexer::Name;
 
 // The number of a symbol on the stack; those below it are opcodes.
 const DATA_END: u64 = 64;
-
-fn plain(op: u64) -> Slot
-    ensures { result ≡ slot op 0 0 }
-{
-    Slot {
-        op,
-        first: 0,
-        second: 0,
-    }
-}
 
 fn plain_symbol(op: u64) -> Symbol
     ensures { result ≡ plain_symbol op }
@@ -60,72 +49,66 @@ fn plain_symbol(op: u64) -> Symbol
     }
 }
 
-fn emitted(instr: Option<Instr>) -> Symbol
-    ensures { result ≡ emit_held instr }
-{
-    match instr {
-        Some(i) => Symbol::Emit(i),
-        None => Symbol::Items,
+impl From<Slot> for Symbol {
+    ghost from_gives = { λ slot symbol. symbol ≡ symbol_held slot };
+
+    fn from(slot: Slot) -> Symbol {
+        if slot.op < DATA_END {
+            let instr = Instr::try_from(slot).ok();
+            instr.map_or(Symbol::Items, |i| Symbol::Emit(i))
+        } else if slot.op == DATA_END {
+            Symbol::DataEnd(Name(slot.first as usize))
+        } else {
+            plain_symbol(slot.op)
+        }
     }
 }
 
-// The symbol in a slot.
-pub fn symbol_of(s: Slot) -> Symbol
-    ensures { result ≡ symbol_held s }
-{
-    if s.op < DATA_END {
-        emitted(s.instr())
-    } else if s.op == DATA_END {
-        Symbol::DataEnd(Name(s.first as usize))
-    } else {
-        plain_symbol(s.op)
-    }
-}
+impl From<Symbol> for Slot {
+    ghost from_gives = { λ symbol slot. slot ≡ slot_for symbol };
 
-// The slot of a symbol.
-pub fn slot_of(symbol: Symbol) -> Slot
-    ensures { result ≡ slot_for symbol }
-{
-    match symbol {
-        Symbol::Emit(i) => i.slot(),
-        Symbol::DataEnd(name) => Slot {
-            op: DATA_END,
-            first: name.0 as u64,
-            second: 0,
-        },
-        Symbol::Else => plain(65),
-        Symbol::Give => plain(66),
-        Symbol::RightParen => plain(67),
-        Symbol::RightBrace => plain(68),
-        Symbol::Semicolon => plain(69),
-        Symbol::Colon => plain(70),
-        Symbol::Expr => plain(71),
-        Symbol::Compared => plain(72),
-        Symbol::Sum => plain(73),
-        Symbol::Product => plain(74),
-        Symbol::Factor => plain(75),
-        Symbol::MoreSum => plain(76),
-        Symbol::MoreProduct => plain(77),
-        Symbol::Primary => plain(78),
-        Symbol::Args => plain(79),
-        Symbol::ArgsOn => plain(80),
-        Symbol::Names => plain(81),
-        Symbol::SomeNames => plain(82),
-        Symbol::Stmts => plain(83),
-        Symbol::Block => plain(84),
-        Symbol::Alts => plain(85),
-        Symbol::Body => plain(86),
-        Symbol::Tail => plain(87),
-        Symbol::Arms => plain(88),
-        Symbol::Ty => plain(89),
-        Symbol::Fields => plain(90),
-        Symbol::FieldsOn => plain(91),
-        Symbol::SomeFields => plain(92),
-        Symbol::Ctors => plain(93),
-        Symbol::CtorsOn => plain(94),
-        Symbol::Params => plain(95),
-        Symbol::ParamsOn => plain(96),
-        Symbol::SomeParams => plain(97),
-        Symbol::Items => plain(98),
+    fn from(symbol: Symbol) -> Slot {
+        match symbol {
+            Symbol::Emit(i) => Slot::from(i),
+            Symbol::DataEnd(name) => Slot {
+                op: DATA_END,
+                first: name.0 as u64,
+                second: 0,
+            },
+            Symbol::Else => Slot::plain(65),
+            Symbol::Give => Slot::plain(66),
+            Symbol::RightParen => Slot::plain(67),
+            Symbol::RightBrace => Slot::plain(68),
+            Symbol::Semicolon => Slot::plain(69),
+            Symbol::Colon => Slot::plain(70),
+            Symbol::Expr => Slot::plain(71),
+            Symbol::Compared => Slot::plain(72),
+            Symbol::Sum => Slot::plain(73),
+            Symbol::Product => Slot::plain(74),
+            Symbol::Factor => Slot::plain(75),
+            Symbol::MoreSum => Slot::plain(76),
+            Symbol::MoreProduct => Slot::plain(77),
+            Symbol::Primary => Slot::plain(78),
+            Symbol::Args => Slot::plain(79),
+            Symbol::ArgsOn => Slot::plain(80),
+            Symbol::Names => Slot::plain(81),
+            Symbol::SomeNames => Slot::plain(82),
+            Symbol::Stmts => Slot::plain(83),
+            Symbol::Block => Slot::plain(84),
+            Symbol::Alts => Slot::plain(85),
+            Symbol::Body => Slot::plain(86),
+            Symbol::Tail => Slot::plain(87),
+            Symbol::Arms => Slot::plain(88),
+            Symbol::Ty => Slot::plain(89),
+            Symbol::Fields => Slot::plain(90),
+            Symbol::FieldsOn => Slot::plain(91),
+            Symbol::SomeFields => Slot::plain(92),
+            Symbol::Ctors => Slot::plain(93),
+            Symbol::CtorsOn => Slot::plain(94),
+            Symbol::Params => Slot::plain(95),
+            Symbol::ParamsOn => Slot::plain(96),
+            Symbol::SomeParams => Slot::plain(97),
+            Symbol::Items => Slot::plain(98),
+        }
     }
 }

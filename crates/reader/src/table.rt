@@ -1,48 +1,39 @@
-ghost use Rattle.std.specs.Prelude.{◌≡◌};
+ghost use Rattle.std.specs.Prelude.{◌≡◌, false, []};
+ghost use Rattle.language.specs.Base.{same};
 ghost use Rattle.reader.specs.Symbol.{step as step_of, s_token};
-ghost use Rattle.lexer.specs.Tokens.{spelled, drawn};
 ghost use Rattle.reader.specs.Steps.{symbol_of};
 ghost use Rattle.reader.specs.Tokens.{text_of, Does};
 
 use super::action::Action;
+use super::ahead::Asked;
 use super::cursor::Cursor;
 use super::error::Expected;
 use super::symbol::Symbol;
-use super::{body, expr, item, matching, stmt};
+use super::{body, expr, item, lists, matching, stmt};
 use code::Instr;
 use lexer::{Keyword, Sign};
 
-// A keyword that has to stand here.
-fn keyword(c: &mut Cursor, k: Keyword) -> Result<Action, Expected>
-    ensures does { Does c.old c.new result (step_of (s_token (spelled k))) }
-    ensures text { text_of c.new ≡ text_of c.old }
+// A sign or a keyword that has to stand here; it has a byte at least, so that the end of a text is none.
+fn token<T: Asked>(c: &mut Cursor, asked: T) -> Result<Action, Expected>
+    requires { same (T.lexeme asked) [] ≡ false }
+    ensures { Does c.old c.new result (step_of (s_token (T.lexeme asked))) }
 {
-    c.expect_keyword(k)?;
-    Ok(Action::Push0)
-}
-
-// A sign that has to stand here.
-fn sign(c: &mut Cursor, s: Sign) -> Result<Action, Expected>
-    ensures does { Does c.old c.new result (step_of (s_token (drawn s))) }
-    ensures text { text_of c.new ≡ text_of c.old }
-{
-    c.expect_sign(s)?;
+    c.expect(asked)?;
     Ok(Action::Push0)
 }
 
 // One step: what stands in the place of the symbol that was on top.
 pub fn step(c: &mut Cursor, symbol: Symbol) -> Result<Action, Expected>
-    ensures does { Does c.old c.new result (step_of (symbol_of (text_of c.old) symbol)) }
-    ensures text { text_of c.new ≡ text_of c.old }
+    ensures { Does c.old c.new result (step_of (symbol_of (text_of c.old) symbol)) }
 {
     match symbol {
         Symbol::Emit(i) => Ok(Action::Emit(i)),
-        Symbol::Else => keyword(c, Keyword::Else),
-        Symbol::Give => keyword(c, Keyword::Give),
-        Symbol::RightParen => sign(c, Sign::RightParen),
-        Symbol::RightBrace => sign(c, Sign::RightBrace),
-        Symbol::Semicolon => sign(c, Sign::Semicolon),
-        Symbol::Colon => sign(c, Sign::Colon),
+        Symbol::Else => token(c, Keyword::Else),
+        Symbol::Give => token(c, Keyword::Give),
+        Symbol::RightParen => token(c, Sign::RightParen),
+        Symbol::RightBrace => token(c, Sign::RightBrace),
+        Symbol::Semicolon => token(c, Sign::Semicolon),
+        Symbol::Colon => token(c, Sign::Colon),
         Symbol::Expr => Ok(Action::Push2([Symbol::Sum, Symbol::Compared])),
         Symbol::Compared => expr::compared(c),
         Symbol::Sum => Ok(Action::Push2([Symbol::Product, Symbol::MoreSum])),
@@ -54,25 +45,25 @@ pub fn step(c: &mut Cursor, symbol: Symbol) -> Result<Action, Expected>
         Symbol::Args => Ok(Action::Push3([Symbol::Expr, Symbol::Emit(Instr::Arg), Symbol::ArgsOn])),
         Symbol::ArgsOn => expr::args_on(c),
         Symbol::Names => matching::names(c),
-        Symbol::SomeNames => matching::some_names(c),
+        Symbol::SomeNames => lists::behind(c, Sign::LeftParen, Symbol::Names),
         Symbol::Stmts => stmt::stmts(c),
         Symbol::Block => body::block(c),
-        Symbol::Alts => matching::alts(c),
+        Symbol::Alts => matching::arms(c, Symbol::Block, Symbol::Alts),
         Symbol::Body => body::body(c),
         Symbol::Tail => body::tail(c),
-        Symbol::Arms => matching::arms(c),
+        Symbol::Arms => matching::arms(c, Symbol::Body, Symbol::Arms),
         Symbol::Ty => item::ty(c),
         Symbol::Fields => Ok(Action::Push3([
             Symbol::Ty,
             Symbol::Emit(Instr::Field),
             Symbol::FieldsOn,
         ])),
-        Symbol::FieldsOn => item::fields_on(c),
-        Symbol::SomeFields => item::some_fields(c),
+        Symbol::FieldsOn => lists::on(c, Symbol::Fields),
+        Symbol::SomeFields => lists::behind(c, Sign::LeftParen, Symbol::Fields),
         Symbol::Ctors => item::ctors(c),
-        Symbol::CtorsOn => item::ctors_on(c),
+        Symbol::CtorsOn => lists::behind(c, Sign::Bar, Symbol::Ctors),
         Symbol::Params => item::params(c),
-        Symbol::ParamsOn => item::params_on(c),
+        Symbol::ParamsOn => lists::on(c, Symbol::Params),
         Symbol::SomeParams => item::some_params(c),
         Symbol::DataEnd(name) => item::data_end(c, name),
         Symbol::Items => item::items(c),

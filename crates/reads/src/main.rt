@@ -2,10 +2,10 @@
 // `list` before it the code is listed.
 #![tactic(auto)]
 
-use anyhow::anyhow;
+use anyhow::Context;
 use code::Listing;
 use reader::{ReadError, least_words, read};
-use std::alloc::{AllocError, Global};
+use std::alloc::Global;
 use std::time::Instant;
 use std::{env, fs};
 
@@ -28,14 +28,6 @@ fn report(rt: &HostRuntime, words: &mut [u64], label: &str, text: &[u8]) -> anyh
             println!(rt; "{label}: no text at byte {place}: {e}")?;
         }
         Err(ReadError::Little) => println!(rt; "{label}: too few words")?,
-    }
-    Ok(())
-}
-
-// The pattern again and again, behind the text.
-fn repeat(text: &mut Vec<u8>, pattern: &[u8], times: usize) -> Result<(), AllocError> {
-    for _ in 0..times {
-        text.extend_from_slice(pattern)?;
     }
     Ok(())
 }
@@ -80,48 +72,37 @@ fn report_short(rt: &HostRuntime, words: &mut [u64]) -> anyhow::Result<()> {
     report(rt, few, "eight words", b"")
 }
 
-// All bytes in a row, and each of them in the place of an expression.
+// All bytes in a row.
 fn report_bytes(rt: &HostRuntime, words: &mut [u64]) -> anyhow::Result<()> {
-    let mut all = Vec::new(rt.alloc());
-    for b in 0..=255u8 {
-        all.push(b)?;
-    }
+    let all: Vec<u8> = (0..=u8::MAX).collect(rt.alloc())?;
     report(rt, words, "all bytes", all.as_slice())
 }
 
 fn report_many(rt: &HostRuntime, words: &mut [u64]) -> anyhow::Result<()> {
-    let mut parens = Vec::new(rt.alloc());
-    parens.extend_from_slice(b"fn f(): int { give ")?;
-    repeat(&mut parens, b"(", MANY)?;
-    report(rt, words, "many parentheses", parens.as_slice())?;
-    let mut name = Vec::new(rt.alloc());
-    name.extend_from_slice(b"fn f(): int { give ")?;
-    repeat(&mut name, b"a", MANY)?;
-    name.extend_from_slice(b" }")?;
-    report(rt, words, "a name of a megabyte", name.as_slice())
+    let heap = rt.alloc();
+    let open = "(".repeat(heap, MANY)?;
+    let parens = format!(in heap; "fn f(): int {{ give {open}")?;
+    report(rt, words, "many parentheses", parens.as_bytes())?;
+    let long = "a".repeat(heap, MANY)?;
+    let name = format!(in heap; "fn f(): int {{ give {long} }}")?;
+    report(rt, words, "a name of a megabyte", name.as_bytes())
 }
 
 fn report_deep(rt: &HostRuntime, words: &mut [u64]) -> anyhow::Result<()> {
-    let mut ifs = Vec::new(rt.alloc());
-    ifs.extend_from_slice(b"fn f(): int {")?;
-    repeat(&mut ifs, b"if 1{", DEEP)?;
-    repeat(&mut ifs, b"}else{}", DEEP)?;
-    ifs.extend_from_slice(b"give 1}")?;
-    report(rt, words, "nested ifs", ifs.as_slice())?;
-    let mut sums = Vec::new(rt.alloc());
-    sums.extend_from_slice(b"fn f(): int { give ")?;
-    repeat(&mut sums, b"(1+", DEEP)?;
-    sums.extend_from_slice(b"1")?;
-    repeat(&mut sums, b")", DEEP)?;
-    sums.extend_from_slice(b"}")?;
-    report(rt, words, "nested sums", sums.as_slice())
+    let heap = rt.alloc();
+    let begin = "if 1{".repeat(heap, DEEP)?;
+    let end = "}else{}".repeat(heap, DEEP)?;
+    let ifs = format!(in heap; "fn f(): int {{{begin}{end}give 1}}")?;
+    report(rt, words, "nested ifs", ifs.as_bytes())?;
+    let open = "(1+".repeat(heap, DEEP)?;
+    let close = ")".repeat(heap, DEEP)?;
+    let sums = format!(in heap; "fn f(): int {{ give {open}1{close}}}")?;
+    report(rt, words, "nested sums", sums.as_bytes())
 }
 
 fn words_for(heap: Global, bytes: usize) -> anyhow::Result<Vec<u64>> {
-    match least_words(bytes) {
-        Some(least) => Ok(vec![in heap; 0; least]?),
-        None => Err(anyhow!("a text that no memory is enough for")),
-    }
+    let least = least_words(bytes).context("a text that no memory is enough for")?;
+    Ok(vec![in heap; 0; least]?)
 }
 
 // The code of a text, a line for each instruction.
@@ -130,10 +111,9 @@ fn list(rt: &HostRuntime, text: &[u8]) -> anyhow::Result<()> {
     let Ok(code) = read(text, words.as_mut_slice()) else {
         return report(rt, words.as_mut_slice(), "file", text);
     };
-    let end = 3 * code.count;
     let listing = Listing {
         text,
-        words: &words.as_slice()[0..end],
+        words: &words.as_slice()[..3 * code.count],
     };
     print!(rt; "{listing}")?;
     Ok(())
@@ -148,21 +128,20 @@ fn time(rt: &HostRuntime, text: &[u8]) -> anyhow::Result<()> {
     Ok(())
 }
 
-fn main(rt: HostRuntime) -> anyhow::Result<()> {
-    let mut args = env::args(&rt)?;
-    let _ = args.next();
-    if let Some(first) = args.next() {
-        if let Some(path) = args.next() {
-            let text = fs::read(&rt, path)?;
-            return list(&rt, text.as_slice());
-        }
-        let text = fs::read(&rt, first)?;
-        return time(&rt, text.as_slice());
-    }
+fn report_all(rt: &HostRuntime) -> anyhow::Result<()> {
     let mut words = words_for(rt.alloc(), LONGEST)?;
     let work = words.as_mut_slice();
-    report_short(&rt, work)?;
-    report_bytes(&rt, work)?;
-    report_many(&rt, work)?;
-    report_deep(&rt, work)
+    report_short(rt, work)?;
+    report_bytes(rt, work)?;
+    report_many(rt, work)?;
+    report_deep(rt, work)
+}
+
+fn main(rt: HostRuntime) -> anyhow::Result<()> {
+    let mut args = env::args(&rt)?.skip(1);
+    match (args.next(), args.next()) {
+        (Some(_), Some(path)) => list(&rt, fs::read(&rt, path)?.as_slice()),
+        (Some(path), None) => time(&rt, fs::read(&rt, path)?.as_slice()),
+        (None, _) => report_all(&rt),
+    }
 }

@@ -1,4 +1,4 @@
-use Rattle.std.proofs.Common.{◌≡◌, ℕ, ◌-◌, ◌<◌, List, sym, refl, ap, ◌∙◌, subst, arith}
+use Rattle.std.proofs.Common.{◌≡◌, ℕ, ◌<◌, List, sym, refl, ap, ◌∙◌, subst, arith}
 use Rattle.reader.specs.Symbol.{step, fail}
 use Rattle.language.specs.Base.{Lexeme}
 use Rattle.lexer.specs.Left.{Next}
@@ -6,36 +6,35 @@ use Rattle.lexer.specs.Places.{from_place}
 use Rattle.reader.specs.declared.error.Misread.{Misread}
 use Rattle.reader.specs.Steps.{Stands, symbol_of, action_of}
 use Rattle.reader.specs.Tokens.{text_of, tokens}
-use Rattle.reader.specs.declared.machine.Progress.{Progress}
+use Rattle.reader.specs.Machine.{Read}
+use Rattle.reader.specs.declared.progress.Progress.{Progress}
 use Rattle.reader.proofs.Turns.{Going, left_over, begun, bounded, done, failed, turned}
 use Rattle.reader.proofs.machine.run.Goals as goal
 
-pub loop-at-init : goal.loop-at-init
-loop-at-init c = (
-  subst (Going c.args.text.now c.pile-at.new.words c.args.base c.pile-at.result)
-      (sym c.new-cursor.ensures.all)
-      (begun c.args.text.now c.pile-at.new.words c.args.base _ c.pile-at.result
-      c.args.words.now refl refl c.pile-at.ensures),
-  c.new-cursor.ensures.text,
-)
+pub loop-symbol-init : goal.loop-symbol-init
+loop-symbol-init c =
+    let start = c.new-at.ensures in (
+      subst (Going c.args.text.now c.pile.new.words c.pile.new.self) (sym c.new-cursor.ensures.all)
+          (begun c.args.text.now c.pile.new.words c.new-at.result c.pile.new.self c.args.words.now
+          (ap (λ (p : Progress). p.height) start) (ap (λ (p : Progress). p.made) start)
+          (ap (λ (p : Progress). p.base) start ∙ c.requires.base) c.pile.ensures),
+      c.new-cursor.ensures.text,
+    )
 
-pub overflow_add-base : goal.overflow_add-base
-overflow_add-base c =
-    let b = bounded c.args.text.now c.loop-at.words c.args.base c.loop-at.at
-    (tokens c.loop-at.cursor) c.loop-at.invariant.0 in
+pub pop-requires : goal.pop-requires
+pop-requires c =
+    let g = c.loop-symbol.invariant.0 in
+    let b = bounded c.args.text.now c.loop-symbol.words c.loop-symbol.at (tokens c.loop-symbol.cursor) g in
+    let e = g.base in
     omega arith
 
-pub held_at-symbol-requires : goal.held_at-symbol-requires
-held_at-symbol-requires c =
-    let b = bounded c.args.text.now c.loop-at.words c.args.base c.loop-at.at
-    (tokens c.loop-at.cursor) c.loop-at.invariant.0 in
-    omega arith
-
-pub perform-at-requires : goal.perform-at-requires
-perform-at-requires c =
-    let b = bounded c.args.text.now c.loop-at.words c.args.base c.loop-at.at
-    (tokens c.loop-at.cursor) c.loop-at.invariant.0 in
-    omega arith
+pub perform-requires : goal.perform-requires
+perform-requires c =
+    let g = c.loop-symbol.invariant.0 in
+    let b = bounded c.args.text.now c.loop-symbol.words c.loop-symbol.at (tokens c.loop-symbol.cursor) g in
+    let e = g.base in
+    let p = c.in-Some.ensures in
+    (omega (arith, p.1, p.2, p.3), omega (arith, p.1, p.2, p.3))
 
 -- what the step said, over the text itself
 on_text : {D : Type 0} (text now : List ℕ) (A B : List ℕ → D) → now ≡ text → A now ≡ B now → A text ≡ B text
@@ -48,53 +47,43 @@ standing {text} e ws s = record {
   found = subst (Next text e.found) (sym s.place.rest) s.found;
 }
 
--- one symbol less
-below : Progress → Progress
-below at = record { height = at.height - 1; made = at.made }
-
 went : (c : goal.After-slice_known-in-Ok-1) →
-    Going c.args.text.now c.perform-at.new.words c.args.base c.perform-at.result
-    (tokens c.step.new.c)
-    × (left_over c.args.text.now c.perform-at.new.words c.args.base c.perform-at.result
-    (tokens c.step.new.c)
-    < left_over c.args.text.now c.loop-at.words c.args.base c.loop-at.at
-    (tokens c.loop-at.cursor))
-unfolding below
+    Going c.args.text.now c.perform.new.words c.perform.new.self (tokens c.step.new.c)
+    × (left_over c.args.text.now c.perform.new.words c.perform.new.self (tokens c.step.new.c)
+    < left_over c.args.text.now c.loop-symbol.words c.loop-symbol.at (tokens c.loop-symbol.cursor))
 went c =
-    turned c.args.text.now c.loop-at.words c.args.base c.loop-at.at
-    (tokens c.loop-at.cursor) c.loop-at.invariant.0
-    c.held_at-symbol.result (below c.loop-at.at) c.loop-at-test.true refl refl
-    c.held_at-symbol.ensures
-    c.in-Ok.action (tokens c.step.new.c) c.perform-at.new.words c.perform-at.result
-    (on_text c.args.text.now (text_of c.loop-at.cursor)
+    turned c.args.text.now c.loop-symbol.words c.loop-symbol.at (tokens c.loop-symbol.cursor) c.loop-symbol.invariant.0
+    c.in-Some.symbol c.pop.new.self c.in-Some.ensures
+    c.in-Ok.action (tokens c.step.new.c) c.perform.new.words c.perform.new.self
+    (on_text c.args.text.now (text_of c.loop-symbol.cursor)
     (λ t. action_of t c.in-Ok.action (tokens c.step.new.c))
-    (λ t. step (symbol_of t c.held_at-symbol.result) (tokens c.loop-at.cursor)) c.loop-at.invariant.1
-    c.in-Ok.ensures.does)
-    c.perform-at.ensures
+    (λ t. step (symbol_of t c.in-Some.symbol) (tokens c.loop-symbol.cursor)) c.loop-symbol.invariant.1
+    c.in-Ok.ensures.0)
+    c.perform.ensures
 
-pub loop-at-smaller : goal.loop-at-smaller
-loop-at-smaller c = (went c).1
+pub loop-symbol-smaller : goal.loop-symbol-smaller
+loop-symbol-smaller c = (went c).1
 
-pub loop-at-preserved : goal.loop-at-preserved
-loop-at-preserved c = ((went c).0, c.step.ensures.text ∙ c.loop-at.invariant.1)
+pub loop-symbol-preserved : goal.loop-symbol-preserved
+loop-symbol-preserved c = ((went c).0, c.in-Ok.ensures.1 ∙ c.loop-symbol.invariant.1)
 
 pub returns-in-Err : goal.returns-in-Err
-unfolding below
 returns-in-Err c = record {
   none_read =
-      failed c.args.text.now c.loop-at.words c.args.base c.loop-at.at
-      (tokens c.loop-at.cursor) c.loop-at.invariant.0
-      c.held_at-symbol.result (below c.loop-at.at) c.loop-at-test.true refl refl
-      c.held_at-symbol.ensures
-      (on_text c.args.text.now (text_of c.loop-at.cursor) (λ t. fail)
-      (λ t. step (symbol_of t c.held_at-symbol.result) (tokens c.loop-at.cursor)) c.loop-at.invariant.1
-      c.in-Err.ensures.does);
+      failed c.args.text.now c.loop-symbol.words c.loop-symbol.at (tokens c.loop-symbol.cursor) c.loop-symbol.invariant.0
+      c.in-Some.symbol c.pop.new.self c.in-Some.ensures
+      (on_text c.args.text.now (text_of c.loop-symbol.cursor) (λ t. fail)
+      (λ t. step (symbol_of t c.in-Some.symbol) (tokens c.loop-symbol.cursor)) c.loop-symbol.invariant.1
+      c.in-Err.ensures.0);
   stands =
       standing c.misread.result (tokens c.step.new.c)
       (subst (λ t. Stands t c.misread.result (tokens c.step.new.c))
-      (c.step.ensures.text ∙ c.loop-at.invariant.1) c.misread.ensures);
+      (c.in-Err.ensures.1 ∙ c.loop-symbol.invariant.1) c.misread.ensures);
 }
 
 pub returns : goal.returns
-returns c = done c.args.text.now c.loop-at.words c.args.base c.loop-at.at
-    (tokens c.loop-at.cursor) c.loop-at.invariant.0 (omega arith)
+returns c =
+    let end = c.in_default.ensures in
+    subst (λ (p : Progress). Read c.args.text.now c.loop-symbol.words p.made) (sym end.1)
+    (done c.args.text.now c.loop-symbol.words c.loop-symbol.at (tokens c.loop-symbol.cursor)
+    c.loop-symbol.invariant.0 end.0)

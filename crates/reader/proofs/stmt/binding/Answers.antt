@@ -22,8 +22,8 @@ behind_name text now x ts left behind r e n h =
     ap (λ t. answered t r behind) (sym e) ∙ h ∙ ap₂ step_named (ap (λ t. spelling t x) e ∙ n.1) n.2 ∙ sym (on_name ts n.0)
 
 pub returns : goal.returns
-returns c = record {
-  does = behind_name _ _ c.in_ok-x.x (tokens c.args.c.now) _ (tokens c.named.new.c) c.named.result
-      c.lower.ensures.text c.in_ok-x.ensures.got c.named.ensures.does;
-  text = c.named.ensures.text ∙ c.lower.ensures.text;
-}
+returns c = (
+  behind_name _ _ c.in_ok-x.x (tokens c.args.c.now) _ (tokens c.named.new.c) c.named.result
+      c.in_ok-x.ensures.1 c.in_ok-x.ensures.0 c.named.ensures.0,
+  c.named.ensures.1 ∙ c.in_ok-x.ensures.1,
+)

@@ -1,6 +1,0 @@
-use Rattle.reader.specs.Tokens.{tokens}
-use Rattle.reader.proofs.cursor.Cursor.advance.Goals as goal
-
-pub returns : goal.returns
-unfolding tokens
-returns c = record { gone = c.next.ensures.left; text = c.next.ensures.text }
