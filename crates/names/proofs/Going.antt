@@ -2,8 +2,6 @@
 use Rattle.std.proofs.Common.{◌≡◌, ℕ, zero, suc, ◌+◌, ◌*◌, ◌<◌, ◌≤◌, ◌⊎◌, List, ◌++◌, map, length, get_or, Some, None, Option as Maybe, sym, refl, ap, ◌∙◌, subst, ap₂, inl, inr, arith}
 use Rattle.std.specs.Option.{option_map, option_to_list}
 use Rattle.std.proofs.lemmas.List.{map-append, length-map}
-use mathlib.Core.Logic.{∥∥₁_elim}
-use native.Mathlib.Nat.{ℕ_set}
 use Rattle.std.proofs.lemmas.Bool.{cases_eq}
 use Rattle.std.proofs.lemmas.Option.{none-some, same_Some}
 use Rattle.code.specs.declared.instr.Instr.{Instr}
@@ -14,6 +12,7 @@ use Rattle.code.specs.Means.{means}
 use Rattle.code.proofs.InWords.{word_behind, slot_kept, instr_put}
 use Rattle.names.specs.Table.{Has, Sound, used}
 use Rattle.names.specs.Canonical.{Uses, Canonical}
+use Rattle.names.proofs.Shortest.{sound_again}
 
 -- words: as they were at first; after: as they are, when k slots are done
 pub record Going (text words after table : List ℕ) (k : ℕ) : Type 0 where
@@ -92,4 +91,4 @@ filled_now {text} {words} {after} g n full =
 
 pub canonical_now : (text words after table : List ℕ) (n : ℕ) → ∥ Sound text table ∥₁ → Going text words after table n → Canonical text after n
 canonical_now text words after table n sound g k l i j x y hk hl ik jl ux uy same =
-    ∥∥₁_elim sound (ℕ_set x y) (λ s. s.apart x y (g.named k i x hk ik ux) (g.named l j y hl jl uy) same)
+    (sound_again text table sound).apart x y (g.named k i x hk ik ux) (g.named l j y hl jl uy) same

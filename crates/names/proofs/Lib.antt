@@ -1,6 +1,7 @@
 pub mod Hashes
 pub mod Walks
 pub mod Search
+pub mod Shortest
 pub mod Inserts
 pub mod Used
 pub mod Renames

@@ -13,6 +13,7 @@ use lexer::{Name, same_name};
 pub struct Interner<'a> {
     text: &'a [u8],
     table: &'a mut [u64],
+    // Only that it is so, since a ghost field can't hold the counts of steps. What each public method ensures has them too.
     ghost sound: { ∥ Sound text.now table.now ∥₁ },
 }
 
@@ -20,6 +21,7 @@ impl<'a> Interner<'a> {
     // Over a table that is cleared first.
     pub fn new(text: &'a [u8], table: &'a mut [u64]) -> Interner<'a>
         ensures text { result.text.now ≡ text.now }
+        ensures sound { Sound text.now result.table.now }
         ensures same_reference { result.table.ghost_name ≡ table.entry.ghost_name }
         ensures length { length result.table.now ≡ length table.old }
         ensures empty { used result.table.now ≡ 0 }
@@ -29,9 +31,11 @@ impl<'a> Interner<'a> {
     }
 
     // Over a table with names of the text in it already.
+    #[tactic(auto, using(crate::proofs::Shortest::sound_again))]
     pub fn over(text: &'a [u8], table: &'a mut [u64]) -> Interner<'a>
         requires { ∥ Sound text.now table.old ∥₁ }
         ensures text { result.text.now ≡ text.now }
+        ensures sound { Sound text.now result.table.now }
         ensures same_reference { result.table.ghost_name ≡ table.entry.ghost_name }
         ensures table { result.table.now ≡ table.old }
     {
@@ -71,8 +75,10 @@ impl<'a> Interner<'a> {
     }
 
     // The name in the table that is spelled like this one, which is put into it if there is none.
+    #[tactic(auto, using(crate::proofs::Shortest::sound_again))]
     pub fn intern(&mut self, name: Name) -> Result<Name, Full>
         ensures text { self.new.text.now ≡ self.old.text.now }
+        ensures sound { Sound self.new.text.now self.new.table.now }
         ensures same_reference { self.new.table.ghost_name ≡ self.old.table.ghost_name }
         ensures length { length self.new.table.now ≡ length self.old.table.now }
         ensures grows { (p : ℕ) → Has self.old.table.now p → Has self.new.table.now p }

@@ -1,7 +1,7 @@
 ghost use Rattle.std.specs.Prelude.{◌≡◌, ℕ, ◌+◌, ◌≤◌, true, false, length, MatchResult};
 ghost use Rattle.lexer.specs.Spelling.{lexeme_at};
 ghost use Rattle.code.specs.Means.{means};
-ghost use Rattle.names.specs.Table.{Has, IsFull, used};
+ghost use Rattle.names.specs.Table.{Sound, Has, IsFull, used};
 ghost use Rattle.names.specs.Canonical.{first_named, second_named, Uses};
 
 use crate::full::Full;
@@ -38,8 +38,10 @@ impl Interner<'_> {
     }
 
     // The instruction with the names of the table in place of its own.
+    #[tactic(auto, using(crate::proofs::Shortest::sound_again))]
     pub fn rename(&mut self, instr: Instr) -> Result<Instr, Full>
         ensures text { self.new.text.now ≡ self.old.text.now }
+        ensures sound { Sound self.new.text.now self.new.table.now }
         ensures same_reference { self.new.table.ghost_name ≡ self.old.table.ghost_name }
         ensures length { length self.new.table.now ≡ length self.old.table.now }
         ensures grows { (p : ℕ) → Has self.old.table.now p → Has self.new.table.now p }
