@@ -1,10 +1,12 @@
-// What is still to be done. A machine keeps these on a stack of its own, so that no text uses up the host's stack.
+// What is still to be done. A machine keeps these on a stack of its own, so that no text uses up the host's stack. They are an enum, and
+// no closures: a closure would borrow the machine that keeps it, or would be boxed and handed out.
+use crate::machine::number_of;
 use model_memory::stop::Stop;
-use model_memory::value::{Parts, RootId, Value};
+use model_memory::value::{RootId, Value};
 use model_text::tree::{BodyId, ExprId, Name, Operator, Span};
 use std::alloc::Global;
 
-#[derive(Clone, Copy)]
+#[derive(Drop)]
 pub enum Task {
     // an expression's value goes onto the stack of values, those of several one behind the other
     Eval(ExprId),
@@ -32,8 +34,8 @@ pub enum Task {
     EndNames(usize),
     // a call ends: the words under way and the first name in scope before it
     EndCall(u64, usize),
-    // the value that was left last is dropped
-    Drop,
+    // a value is dropped
+    Drop(Value),
     // a box ends, behind what was in it: its words, and the words under way before it
     EndBox(RootId, u64, u64),
     // a last function has ended: where the value is that it was called for
@@ -45,8 +47,6 @@ pub struct Work {
     tasks: Vec<Task>,
     // what expressions gave
     values: Vec<Value>,
-    // what is to be dropped, the next one last
-    doomed: Vec<Value>,
     // so many tasks may wait for one another
     depth: u64,
 }
@@ -56,7 +56,6 @@ impl Work {
         Work {
             tasks: Vec::new(heap),
             values: Vec::new(heap),
-            doomed: Vec::new(heap),
             depth,
         }
     }
@@ -71,16 +70,6 @@ impl Work {
 
     pub fn next(&mut self) -> Option<Task> {
         self.tasks.pop()
-    }
-
-    // A value is to be dropped next.
-    pub fn drop_later(&mut self, value: Value) -> Result<(), Stop> {
-        self.doomed.push(value)?;
-        self.later(Task::Drop)
-    }
-
-    pub fn pop_doomed(&mut self) -> Result<Value, Stop> {
-        self.doomed.pop().ok_or(Stop::Wrong)
     }
 
     pub fn height(&self) -> usize {
@@ -101,11 +90,11 @@ impl Work {
     }
 
     pub fn pop_number(&mut self) -> Result<u64, Stop> {
-        match self.pop()?.parts() {
-            Parts::Number(k) => Ok(k),
-            Parts::Data(_, _) | Parts::Box(_) | Parts::Reference(_) | Parts::Hole => Err(
-                Stop::Wrong,
-            ),
-        }
+        number_of(&self.pop()?)
+    }
+
+    // The values above the height, in their order.
+    pub fn above(&mut self, height: usize) -> Result<Vec<Value>, Stop> {
+        Ok(self.values.split_off(height.min(self.values.len()))?)
     }
 }
