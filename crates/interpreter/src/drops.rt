@@ -19,7 +19,7 @@ impl<'p> Machine<'p> {
         };
         self.later(Task::EndNames(down_to))?;
         let value = self.memory.end(root)?;
-        self.later(Task::Drop(value))
+        self.work.drop_later(value)
     }
 
     // A call ends: its value stays.
@@ -28,8 +28,8 @@ impl<'p> Machine<'p> {
         self.scope.leave(base);
     }
 
-    pub fn drop_value(&mut self, value: Value) -> Result<(), Stop> {
-        match value {
+    pub fn drop_value(&mut self) -> Result<(), Stop> {
+        match self.work.pop_doomed()? {
             Value::Number(_) | Value::Reference(_) | Value::Hole => Ok(()),
             Value::Box(root) => self.drop_box(root),
             Value::Data(ctor, below, fields) => match last_of(self.program, ctor)? {
@@ -45,7 +45,7 @@ impl<'p> Machine<'p> {
         let words = self.memory.words(root)?;
         let under = self.meter.go_under(8)?;
         self.later(Task::EndBox(root, words, under))?;
-        self.later(Task::Drop(inner))
+        self.work.drop_later(inner)
     }
 
     pub fn end_box(&mut self, root: RootId, words: u64, under: u64) -> Result<(), Stop> {
@@ -79,7 +79,7 @@ impl<'p> Machine<'p> {
     // The fields are dropped, the first one first: so the last one is left first.
     fn drop_all(&mut self, fields: Vec<Value>) -> Result<(), Stop> {
         for value in fields.into_iter().rev() {
-            self.later(Task::Drop(value))?;
+            self.work.drop_later(value)?;
         }
         Ok(())
     }

@@ -102,7 +102,7 @@ impl<'p> Machine<'p> {
         let value = self.work.pop()?;
         let root = self.scope.root_of(name)?;
         let old = self.memory.replace(root, &[], value)?;
-        self.later(Task::Drop(old))
+        self.work.drop_later(old)
     }
 
     pub fn store(&mut self, name: Name) -> Result<(), Stop> {
@@ -114,7 +114,7 @@ impl<'p> Machine<'p> {
         let old = self
             .memory
             .replace(place.root, place.path.as_slice(), value)?;
-        self.later(Task::Drop(old))
+        self.work.drop_later(old)
     }
 
     pub fn show(&mut self) -> Result<(), Stop> {

@@ -76,7 +76,7 @@ impl<'p> Machine<'p> {
                 self.end_call(under, base);
                 Ok(())
             }
-            Task::Drop(value) => self.drop_value(value),
+            Task::Drop => self.drop_value(),
             Task::EndBox(root, words, under) => self.end_box(root, words, under),
             Task::EndLast(root) => self.end_last(root),
         }
