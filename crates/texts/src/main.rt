@@ -21,13 +21,14 @@ fn run(heap: Global, text: &str, limits: Limits) -> anyhow::Result<Outcome> {
 }
 
 // How a run with less comes out; where there was nothing to take away, a dash.
-fn show_less(rt: &HostRuntime, text: &str, taken: u64, limits: Limits) -> anyhow::Result<()> {
-    if taken == 0 {
-        print!(rt; ", -")?;
-        return Ok(());
+fn show_less(rt: &HostRuntime, text: &str, less: Option<Limits>) -> anyhow::Result<()> {
+    match less {
+        Some(limits) => {
+            let outcome = run(rt.alloc(), text, limits)?;
+            print!(rt; ", {outcome}")?;
+        }
+        None => print!(rt; ", -")?,
     }
-    let outcome = run(rt.alloc(), text, limits)?;
-    print!(rt; ", {outcome}")?;
     Ok(())
 }
 
@@ -53,44 +54,17 @@ fn show_whole(rt: &HostRuntime, outcome: &Outcome) -> anyhow::Result<()> {
     Ok(())
 }
 
-// All that a run used, with one less of one thing at a time; and how much of that thing there was.
-fn one_less(all: Limits) -> [(u64, Limits); 4] {
-    let Limits {
-        heap,
-        stack,
-        turns,
-        out,
-        ..
-    } = all;
+// All that a run used, with one less of one thing at a time; nothing where there was none of it.
+fn one_less(all: Limits) -> [Option<Limits>; 4] {
     [
-        (
-            heap,
-            Limits {
-                heap: heap.saturating_sub(1),
-                ..all
-            },
-        ),
-        (
-            stack,
-            Limits {
-                stack: stack.saturating_sub(1),
-                ..all
-            },
-        ),
-        (
-            turns,
-            Limits {
-                turns: turns.saturating_sub(1),
-                ..all
-            },
-        ),
-        (
-            out,
-            Limits {
-                out: out.saturating_sub(1),
-                ..all
-            },
-        ),
+        all.heap.checked_sub(1).map(|heap| Limits { heap, ..all }),
+        all.stack
+            .checked_sub(1)
+            .map(|stack| Limits { stack, ..all }),
+        all.turns
+            .checked_sub(1)
+            .map(|turns| Limits { turns, ..all }),
+        all.out.checked_sub(1).map(|out| Limits { out, ..all }),
     ]
 }
 
@@ -100,8 +74,8 @@ fn show(rt: &HostRuntime, text: &str) -> anyhow::Result<()> {
     let all = exactly(&first);
     let again = run(rt.alloc(), text, all)?;
     print!(rt; "{again}; one less")?;
-    for (taken, limits) in one_less(all) {
-        show_less(rt, text, taken, limits)?;
+    for less in one_less(all) {
+        show_less(rt, text, less)?;
     }
     println!(rt; "")?;
     Ok(())
