@@ -3,18 +3,12 @@ use crate::machine::{Machine, function_named, reference};
 use crate::task::Task;
 use model_memory::sizes::home_of;
 use model_memory::stop::Stop;
-use model_memory::value::{Fields, Parts, RootId, Value};
+use model_memory::value::{RootId, Value};
 use model_text::tree::{Name, Program};
 
 // The last function of the constructor's data type, if it has one.
 fn last_of(program: &Program, ctor: Name) -> Result<Option<Name>, Stop> {
-    let Some(home) = home_of(&program.datas, ctor) else {
-        return Err(Stop::Wrong);
-    };
-    match program.datas.get(home) {
-        Some(one) => Ok(one.last),
-        None => Err(Stop::Wrong),
-    }
+    Ok(home_of(&program.datas, ctor).ok_or(Stop::Wrong)?.last)
 }
 
 impl<'p> Machine<'p> {
@@ -35,22 +29,19 @@ impl<'p> Machine<'p> {
     }
 
     pub fn drop_value(&mut self) -> Result<(), Stop> {
-        match self.work.pop_doomed()?.parts() {
-            Parts::Number(_) | Parts::Reference(_) | Parts::Hole => Ok(()),
-            Parts::Box(root) => self.drop_box(root),
-            Parts::Data(ctor, fields) => match last_of(self.program, ctor)? {
+        match self.work.pop_doomed()? {
+            Value::Number(_) | Value::Reference(_) | Value::Hole => Ok(()),
+            Value::Box(root) => self.drop_box(root),
+            Value::Data(ctor, below, fields) => match last_of(self.program, ctor)? {
                 None => self.drop_all(fields),
-                Some(last) => {
-                    let whole = Value::data(self.heap, ctor, fields)?;
-                    self.call_last(last, whole)
-                }
+                Some(last) => self.call_last(last, Value::Data(ctor, below, fields)),
             },
         }
     }
 
     // Eight words are under way while what is in the box is dropped.
     fn drop_box(&mut self, root: RootId) -> Result<(), Stop> {
-        let inner = self.memory.whole(root)?.copy(self.heap)?;
+        let inner = self.memory.whole(root)?.clone()?;
         let words = self.memory.words(root)?;
         let under = self.meter.go_under(8)?;
         self.later(Task::EndBox(root, words, under))?;
@@ -68,38 +59,27 @@ impl<'p> Machine<'p> {
 
     // A last function is called with a value that has a root of its own.
     fn call_last(&mut self, last: Name, value: Value) -> Result<(), Stop> {
-        let number = function_named(self.program, last)?;
+        let function = function_named(self.program, last)?;
         let root = self.memory.add(value, 0)?;
         self.later(Task::EndLast(root))?;
         let mut arguments = Vec::new(self.heap);
         arguments.push(reference(self.heap, root))?;
-        self.enter(number, arguments)
+        self.enter(function, arguments)
     }
 
     // Behind a last function: the fields are dropped, as it left them.
     pub fn end_last(&mut self, root: RootId) -> Result<(), Stop> {
         let _given = self.work.pop()?;
-        match self.memory.end(root)?.parts() {
-            Parts::Data(_, fields) => self.drop_all(fields),
-            Parts::Number(_) | Parts::Box(_) | Parts::Reference(_) | Parts::Hole => Ok(()),
+        match self.memory.end(root)? {
+            Value::Data(_, _, fields) => self.drop_all(fields),
+            Value::Number(_) | Value::Box(_) | Value::Reference(_) | Value::Hole => Ok(()),
         }
     }
 
     // The fields are dropped, the first one first: so the last one is left first.
-    fn drop_all(&mut self, fields: Fields) -> Result<(), Stop> {
-        let mut values = Vec::new(self.heap);
-        let mut left = fields;
-        for _ in 0..u64::MAX {
-            let Some((first, rest)) = left.split() else {
-                break;
-            };
-            values.push(first)?;
-            left = rest;
-        }
-        for _ in 0..values.len() {
-            if let Some(value) = values.pop() {
-                self.work.drop_later(value)?;
-            }
+    fn drop_all(&mut self, fields: Vec<Value>) -> Result<(), Stop> {
+        for value in fields.into_iter().rev() {
+            self.work.drop_later(value)?;
         }
         Ok(())
     }

@@ -1,17 +1,15 @@
 // Expressions, and calls.
-use crate::machine::{Machine, function_named, reference};
+use crate::machine::{Machine, first_of, function_named, number_of, reference};
 use crate::task::Task;
 use model_memory::arith::worked;
 use model_memory::stop::Stop;
-use model_memory::value::{Fields, Value};
-use model_text::tree::{Expr, ExprId, Name, Operator, Span};
+use model_memory::value::Value;
+use model_text::tree::{Expr, ExprId, Function, Name, Operator, Span};
 
 impl<'p> Machine<'p> {
     pub fn eval(&mut self, id: ExprId) -> Result<(), Stop> {
         let height = self.work.height();
-        let Some(expr) = self.program.nodes.exprs.get(id.0) else {
-            return Err(Stop::Wrong);
-        };
+        let expr = self.program.nodes.exprs.get(id.0).ok_or(Stop::Wrong)?;
         match *expr {
             Expr::Number(k) => self.work.push_number(k),
             Expr::Variable(name) => self.use_name(name),
@@ -44,17 +42,11 @@ impl<'p> Machine<'p> {
     }
 
     pub fn eval_all(&mut self, args: Span) -> Result<(), Stop> {
-        if args.start >= args.end {
+        let Some((first, rest)) = first_of(&self.program.nodes.args, args)? else {
             return Ok(());
-        }
-        let Some(first) = self.program.nodes.args.get(args.start) else {
-            return Err(Stop::Wrong);
         };
-        self.later(Task::EvalAll(Span {
-            start: args.start + 1,
-            end: args.end,
-        }))?;
-        self.later(Task::Eval(*first))
+        self.later(Task::EvalAll(rest))?;
+        self.later(Task::Eval(first))
     }
 
     // A name as a value: a number or a reference is copied, else it is moved away.
@@ -62,7 +54,7 @@ impl<'p> Machine<'p> {
         let root = self.scope.root_of(name)?;
         let value = match self.memory.whole(root)? {
             Value::Number(k) => Value::Number(*k),
-            Value::Reference(place) => Value::Reference(place.copy()?),
+            Value::Reference(place) => Value::Reference(place.clone()?),
             Value::Data(_, _, _) | Value::Box(_) => self.memory.take(root)?,
             Value::Hole => return Err(Stop::Wrong),
         };
@@ -81,12 +73,7 @@ impl<'p> Machine<'p> {
 
     fn load(&mut self, name: Name) -> Result<(), Stop> {
         let place = self.target(name)?;
-        let number = match self.memory.read(&place)? {
-            Value::Number(k) => *k,
-            Value::Data(_, _, _) | Value::Box(_) | Value::Reference(_) | Value::Hole => return Err(
-                Stop::Wrong,
-            ),
-        };
+        let number = number_of(self.memory.read(&place)?)?;
         self.work.push_number(number)
     }
 
@@ -98,13 +85,8 @@ impl<'p> Machine<'p> {
 
     // The values above the height, as fields.
     pub fn construct(&mut self, ctor: Name, height: usize) -> Result<(), Stop> {
-        let mut fields = Fields::NoFields;
-        for _ in 0..self.work.height().saturating_sub(height) {
-            let last = self.work.pop()?;
-            fields = Fields::Field(Box::new(self.heap, last)?, Box::new(self.heap, fields)?);
-        }
-        let value = Value::data(self.heap, ctor, fields)?;
-        self.work.push(value)
+        let fields = self.work.above(height)?;
+        self.work.push(Value::data(ctor, fields)?)
     }
 
     pub fn make_box(&mut self) -> Result<(), Stop> {
@@ -118,42 +100,29 @@ impl<'p> Machine<'p> {
         self.work.push(Value::Box(root))
     }
 
-    // The values above the height, the last one first.
-    fn arguments(&mut self, height: usize) -> Result<Vec<Value>, Stop> {
-        let mut found = Vec::new(self.heap);
-        for _ in 0..self.work.height().saturating_sub(height) {
-            found.push(self.work.pop()?)?;
-        }
-        Ok(found)
-    }
-
     // Calls a function with the values above the height.
     pub fn call(&mut self, name: Name, height: usize) -> Result<(), Stop> {
-        let arguments = self.arguments(height)?;
-        let number = function_named(self.program, name)?;
-        self.enter(number, arguments)
+        let arguments = self.work.above(height)?;
+        let function = function_named(self.program, name)?;
+        self.enter(function, arguments)
     }
 
-    // A call: a turn, its words, its parameters, its body. The arguments come the last one first.
-    pub fn enter(&mut self, number: usize, arguments: Vec<Value>) -> Result<(), Stop> {
+    // A call: a turn, its words, its parameters, its body.
+    pub fn enter(&mut self, function: &Function, arguments: Vec<Value>) -> Result<(), Stop> {
         self.meter.turn()?;
-        let words = self.sizes.frame(number)?;
+        let words = self.sizes.frame(function);
         let under = self.meter.go_under(words)?;
         let base = self.scope.enter();
         self.later(Task::EndCall(under, base))?;
-        self.bind_params(number, arguments)
+        self.bind_params(function, arguments)
     }
 
-    fn bind_params(&mut self, number: usize, mut arguments: Vec<Value>) -> Result<(), Stop> {
-        let Some(function) = self.program.functions.get(number) else {
-            return Err(Stop::Wrong);
-        };
+    fn bind_params(&mut self, function: &Function, arguments: Vec<Value>) -> Result<(), Stop> {
         if arguments.len() != function.params.len() {
             return Err(Stop::Wrong);
         }
         let names = self.scope.len();
-        for param in function.params.iter() {
-            let value = arguments.pop().ok_or(Stop::Wrong)?;
+        for (param, value) in function.params.iter().zip(arguments) {
             self.bind(param.name, value)?;
         }
         self.run_body(function.body, names)

@@ -1,9 +1,9 @@
 // Statements and bodies.
-use crate::machine::{Machine, reference};
+use crate::machine::{Machine, box_of, first_of, nodes_of, reference};
 use crate::task::Task;
 use model_memory::stop::Stop;
-use model_memory::value::{Parts, Place, Value};
-use model_text::tree::{Access, Alt, Arm, BodyId, ExprId, Name, Program, Span, Stmt, Tail};
+use model_memory::value::{Place, Value};
+use model_text::tree::{Access, Alt, Arm, BodyId, ExprId, Name, Span, Stmt, Tail};
 
 // What a match looks into: its place, its constructor, and how many fields it has.
 #[derive(Drop)]
@@ -13,26 +13,30 @@ pub struct Matched {
     count: usize,
 }
 
-fn find_alt(program: &Program, alts: Span, ctor: Name) -> Result<Alt, Stop> {
-    for i in alts.start..alts.end {
-        if let Some(alt) = program.nodes.alts.get(i) {
-            if alt.ctor == ctor {
-                return Ok(*alt);
-            }
-        }
-    }
-    Err(Stop::Wrong)
+// One way of a match.
+trait Way {
+    fn ctor(&self) -> Name;
 }
 
-fn find_arm(program: &Program, arms: Span, ctor: Name) -> Result<Arm, Stop> {
-    for i in arms.start..arms.end {
-        if let Some(arm) = program.nodes.arms.get(i) {
-            if arm.ctor == ctor {
-                return Ok(*arm);
-            }
-        }
+impl Way for Alt {
+    fn ctor(&self) -> Name {
+        self.ctor
     }
-    Err(Stop::Wrong)
+}
+
+impl Way for Arm {
+    fn ctor(&self) -> Name {
+        self.ctor
+    }
+}
+
+// The first of the ways that is for the constructor.
+fn find_way<T: Way + Copy>(all: &Vec<T>, ways: Span, ctor: Name) -> Result<T, Stop> {
+    nodes_of(all, ways)?
+        .iter()
+        .find(|way| way.ctor() == ctor)
+        .copied()
+        .ok_or(Stop::Wrong)
 }
 
 impl<'p> Machine<'p> {
@@ -44,27 +48,19 @@ impl<'p> Machine<'p> {
 
     // Runs a body, which gives a value, and then ends its names.
     pub fn run_body(&mut self, id: BodyId, names: usize) -> Result<(), Stop> {
-        let Some(body) = self.program.nodes.bodies.get(id.0) else {
-            return Err(Stop::Wrong);
-        };
+        let body = self.program.nodes.bodies.get(id.0).ok_or(Stop::Wrong)?;
         self.later(Task::EndNames(names))?;
         self.later(Task::Give(id))?;
         self.later(Task::Run(body.block))
     }
 
     pub fn run(&mut self, block: Span) -> Result<(), Stop> {
-        if block.start >= block.end {
+        let Some((first, rest)) = first_of(&self.program.nodes.stmts, block)? else {
             return Ok(());
-        }
-        let Some(first) = self.program.nodes.stmts.get(block.start) else {
-            return Err(Stop::Wrong);
         };
         self.meter.turn()?;
-        self.later(Task::Run(Span {
-            start: block.start + 1,
-            end: block.end,
-        }))?;
-        self.statement(*first)
+        self.later(Task::Run(rest))?;
+        self.statement(first)
     }
 
     fn statement(&mut self, stmt: Stmt) -> Result<(), Stop> {
@@ -88,9 +84,7 @@ impl<'p> Machine<'p> {
     }
 
     pub fn give(&mut self, id: BodyId) -> Result<(), Stop> {
-        let Some(body) = self.program.nodes.bodies.get(id.0) else {
-            return Err(Stop::Wrong);
-        };
+        let body = self.program.nodes.bodies.get(id.0).ok_or(Stop::Wrong)?;
         match body.tail {
             Tail::Give(value) => self.later(Task::Eval(value)),
             Tail::GiveIf(test, yes, no) => self.after(test, Task::GiveIf(yes, no)),
@@ -180,10 +174,8 @@ impl<'p> Machine<'p> {
     }
 
     fn bind_references(&mut self, place: Place, names: Span) -> Result<(), Stop> {
-        for (index, at) in (names.start..names.end).enumerate() {
-            let Some(name) = self.program.nodes.names.get(at) else {
-                return Err(Stop::Wrong);
-            };
+        let names = nodes_of(&self.program.nodes.names, names)?;
+        for (index, name) in names.iter().enumerate() {
             let part = place.field(index)?;
             self.bind(*name, Value::Reference(part))?;
         }
@@ -191,29 +183,22 @@ impl<'p> Machine<'p> {
     }
 
     fn bind_fields(&mut self, place: Place, names: Span) -> Result<(), Stop> {
+        let names = nodes_of(&self.program.nodes.names, names)?;
         let whole = self
             .memory
             .replace(place.root, place.path.as_slice(), Value::Hole)?;
-        let Parts::Data(_, fields) = whole.parts() else {
+        let Value::Data(_, _, fields) = whole else {
             return Err(Stop::Wrong);
         };
-        let mut left = fields;
-        for at in names.start..names.end {
-            let Some(name) = self.program.nodes.names.get(at) else {
-                return Err(Stop::Wrong);
-            };
-            let Some((first, rest)) = left.split() else {
-                return Err(Stop::Wrong);
-            };
-            self.bind(*name, first)?;
-            left = rest;
+        for (name, field) in names.iter().zip(fields) {
+            self.bind(*name, field)?;
         }
         Ok(())
     }
 
     fn match_block(&mut self, way: Access, name: Name, alts: Span) -> Result<(), Stop> {
         let found = self.matched(name)?;
-        let alt = find_alt(self.program, alts, found.ctor)?;
+        let alt = find_way(&self.program.nodes.alts, alts, found.ctor)?;
         let before = self.scope.len();
         self.bind_parts(way, found, alt.names)?;
         self.run_block(alt.block, before)
@@ -221,7 +206,7 @@ impl<'p> Machine<'p> {
 
     fn match_body(&mut self, way: Access, name: Name, arms: Span) -> Result<(), Stop> {
         let found = self.matched(name)?;
-        let arm = find_arm(self.program, arms, found.ctor)?;
+        let arm = find_way(&self.program.nodes.arms, arms, found.ctor)?;
         let before = self.scope.len();
         self.bind_parts(way, found, arm.names)?;
         self.run_body(arm.body, before)
@@ -230,11 +215,7 @@ impl<'p> Machine<'p> {
     // let x = open y: the box ends, and the name has what was in it.
     fn open(&mut self, name: Name, from: Name) -> Result<(), Stop> {
         let root = self.scope.root_of(from)?;
-        let inner = match self.memory.whole(root)? {
-            Value::Box(inner) => *inner,
-            Value::Number(_) | Value::Data(_, _, _) | Value::Reference(_) | Value::Hole =>
-                return Err(Stop::Wrong),
-        };
+        let inner = box_of(self.memory.whole(root)?)?;
         let words = self.memory.words(inner)?;
         let _moved = self.memory.take(root)?;
         let value = self.memory.end(inner)?;
@@ -245,11 +226,7 @@ impl<'p> Machine<'p> {
     // let x = inside y: a reference to what is in the box that y points to.
     fn inside(&mut self, name: Name, from: Name) -> Result<(), Stop> {
         let place = self.target(from)?;
-        let root = match self.memory.read(&place)? {
-            Value::Box(inner) => *inner,
-            Value::Number(_) | Value::Data(_, _, _) | Value::Reference(_) | Value::Hole =>
-                return Err(Stop::Wrong),
-        };
-        self.bind(name, reference(self.heap, root))
+        let inner = box_of(self.memory.read(&place)?)?;
+        self.bind(name, reference(self.heap, inner))
     }
 }

@@ -8,7 +8,7 @@ use model_memory::sizes::Sizes;
 use model_memory::stop::Stop;
 use model_memory::streams::Streams;
 use model_memory::value::{Place, RootId, Value};
-use model_text::tree::{Name, Program};
+use model_text::tree::{Function, Name, Program, Span};
 use std::alloc::Global;
 
 #[derive(Drop)]
@@ -24,22 +24,56 @@ pub struct Machine<'p> {
     pub work: Work,
 }
 
-// The number of the function of that name.
-pub fn function_named(program: &Program, name: Name) -> Result<usize, Stop> {
-    for (i, one) in program.functions.iter().enumerate() {
-        if one.name == name {
-            return Ok(i);
-        }
+// The first function of that name.
+pub fn function_named(program: &Program, name: Name) -> Result<&Function, Stop> {
+    program
+        .functions
+        .iter()
+        .find(|one| one.name == name)
+        .ok_or(Stop::Wrong)
+}
+
+// The nodes of a span.
+pub fn nodes_of<T>(all: &Vec<T>, span: Span) -> Result<&[T], Stop> {
+    all.get(span.start..span.end).ok_or(Stop::Wrong)
+}
+
+// The first node of a span, and the span behind it; nothing where the span is empty.
+pub fn first_of<T: Copy>(all: &Vec<T>, span: Span) -> Result<Option<(T, Span)>, Stop> {
+    if span.start >= span.end {
+        return Ok(None);
     }
-    Err(Stop::Wrong)
+    let first = all.get(span.start).copied().ok_or(Stop::Wrong)?;
+    let rest = Span {
+        start: span.start + 1,
+        end: span.end,
+    };
+    Ok(Some((first, rest)))
 }
 
 // A reference to a root's whole value.
 pub fn reference(heap: Global, root: RootId) -> Value {
-    Value::Reference(Place {
-        root,
-        path: Vec::new(heap),
-    })
+    Value::Reference(Place::whole(heap, root))
+}
+
+// The number that a value is.
+pub fn number_of(value: &Value) -> Result<u64, Stop> {
+    match value {
+        Value::Number(k) => Ok(*k),
+        Value::Data(_, _, _) | Value::Box(_) | Value::Reference(_) | Value::Hole => Err(
+            Stop::Wrong,
+        ),
+    }
+}
+
+// The root of the box that a value is.
+pub fn box_of(value: &Value) -> Result<RootId, Stop> {
+    match value {
+        Value::Box(root) => Ok(*root),
+        Value::Number(_) | Value::Data(_, _, _) | Value::Reference(_) | Value::Hole => Err(
+            Stop::Wrong,
+        ),
+    }
 }
 
 impl<'p> Machine<'p> {
@@ -57,11 +91,10 @@ impl<'p> Machine<'p> {
     pub fn place_of(&self, name: Name) -> Result<Place, Stop> {
         let root = self.scope.root_of(name)?;
         match self.memory.whole(root)? {
-            Value::Reference(place) => place.copy(),
-            Value::Number(_) | Value::Data(_, _, _) | Value::Box(_) | Value::Hole => Ok(Place {
-                root,
-                path: Vec::new(self.heap),
-            }),
+            Value::Reference(place) => Ok(place.clone()?),
+            Value::Number(_) | Value::Data(_, _, _) | Value::Box(_) | Value::Hole => Ok(
+                Place::whole(self.heap, root),
+            ),
         }
     }
 
@@ -69,7 +102,7 @@ impl<'p> Machine<'p> {
     pub fn target(&self, name: Name) -> Result<Place, Stop> {
         let root = self.scope.root_of(name)?;
         match self.memory.whole(root)? {
-            Value::Reference(place) => place.copy(),
+            Value::Reference(place) => Ok(place.clone()?),
             Value::Number(_) | Value::Data(_, _, _) | Value::Box(_) | Value::Hole => Err(
                 Stop::Wrong,
             ),

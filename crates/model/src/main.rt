@@ -2,7 +2,7 @@
 // Numbers to read come from standard input, and each number shown goes onto a line of standard output.
 #![tactic(auto)]
 
-use anyhow::anyhow;
+use anyhow::{Context, anyhow};
 use interpreter::input::numbers;
 use interpreter::run::{Limits, Outcome, run_text};
 use std::env::Args;
@@ -21,31 +21,18 @@ struct Request {
 }
 
 // Sets the limit that the flag names.
-fn set(limits: Limits, flag: &str, value: &str) -> anyhow::Result<Limits> {
+fn set(limits: &mut Limits, flag: &str, value: &str) -> anyhow::Result<()> {
     let number = value.parse::<u64>()?;
-    match flag {
-        "--heap" => Ok(Limits {
-            heap: number,
-            ..limits
-        }),
-        "--stack" => Ok(Limits {
-            stack: number,
-            ..limits
-        }),
-        "--turns" => Ok(Limits {
-            turns: number,
-            ..limits
-        }),
-        "--out" => Ok(Limits {
-            out: number,
-            ..limits
-        }),
-        "--depth" => Ok(Limits {
-            depth: number,
-            ..limits
-        }),
-        _ => Err(anyhow!("{USAGE}")),
-    }
+    let limit = match flag {
+        "--heap" => &mut limits.heap,
+        "--stack" => &mut limits.stack,
+        "--turns" => &mut limits.turns,
+        "--out" => &mut limits.out,
+        "--depth" => &mut limits.depth,
+        _ => return Err(anyhow!("{USAGE}")),
+    };
+    *limit = number;
+    Ok(())
 }
 
 fn requested(mut args: Args) -> anyhow::Result<Request> {
@@ -53,15 +40,10 @@ fn requested(mut args: Args) -> anyhow::Result<Request> {
         file: None,
         limits: Limits::large(),
     };
-    for _ in 0..u64::MAX {
-        let Some(arg) = args.next() else {
-            break;
-        };
+    while let Some(arg) = args.next() {
         if arg.as_str().starts_with("--") {
-            let Some(value) = args.next() else {
-                return Err(anyhow!("{USAGE}"));
-            };
-            found.limits = set(found.limits, arg.as_str(), value.as_str())?;
+            let value = args.next().context(USAGE)?;
+            set(&mut found.limits, arg.as_str(), value.as_str())?;
         } else if found.file.is_some() {
             return Err(anyhow!("{USAGE}"));
         } else {
@@ -73,7 +55,7 @@ fn requested(mut args: Args) -> anyhow::Result<Request> {
 
 fn show(rt: &HostRuntime, outcome: &Outcome) -> anyhow::Result<()> {
     let mut out = rt.stdout().lock();
-    for k in outcome.shown.iter() {
+    for k in &outcome.shown {
         writeln!(out, "{k}")?;
     }
     Ok(())
@@ -84,14 +66,12 @@ fn run(rt: &HostRuntime) -> anyhow::Result<Outcome> {
     let mut args = env::args(rt)?;
     let _ = args.next();
     let Request { file, limits } = requested(args)?;
-    let Some(file) = file else {
-        return Err(anyhow!("{USAGE}"));
-    };
+    let file = file.context(USAGE)?;
     let text = fs::read(rt, file.as_str())?;
     let input = io::read_to_string(heap, rt.stdin())?;
-    let Ok(inputs) = numbers(heap, input.as_str()) else {
-        return Err(anyhow!("standard input: not a number"));
-    };
+    let inputs = numbers(heap, input.as_str())
+        .ok()
+        .context("standard input: not a number")?;
     let outcome = run_text(heap, text.as_slice(), limits, inputs);
     show(rt, &outcome)?;
     Ok(outcome)
@@ -100,17 +80,7 @@ fn run(rt: &HostRuntime) -> anyhow::Result<Outcome> {
 fn main(rt: HostRuntime) -> anyhow::Result<ExitCode> {
     let outcome = run(&rt)?;
     let used = outcome.used;
-    let heap = used.heap;
-    let stack = used.stack;
-    let turns = used.turns;
-    let told = match outcome.end {
-        Ok(value) => eprintln!(rt; "ended {value}\nused: heap={heap} stack={stack} turns={turns}"),
-        Err(stop) => {
-            let what = stop.told();
-            eprintln!(rt; "{what}\nused: heap={heap} stack={stack} turns={turns}")
-        }
-    };
-    told?;
+    eprintln!(rt; "{outcome}\nused: {used}")?;
     match outcome.end {
         Ok(_) => Ok(ExitCode::SUCCESS),
         Err(_) => Ok(ExitCode::FAILURE),

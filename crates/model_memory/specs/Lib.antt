@@ -1,3 +1,2 @@
 -- What the parts of a run stand for, in the definitions' terms.
-pub mod Signs
 pub mod Pooled

@@ -2,12 +2,11 @@
 use crate::stop::Stop;
 use crate::value::{MOST_LEVELS, Place, RootId, Value};
 use std::alloc::Global;
-use std::mem;
 
+// What is at a root.
 #[derive(Drop)]
-struct Slot {
+struct Held {
     serial: u64,
-    live: bool,
     value: Value,
     // a box's words; 0 for a name's
     words: u64,
@@ -15,8 +14,8 @@ struct Slot {
 
 #[derive(Drop)]
 pub struct Memory {
-    heap: Global,
-    slots: Vec<Slot>,
+    // a map from serial numbers in place of slots was tried: runs took up to three times as long
+    slots: Vec<Option<Held>>,
     free: Vec<usize>,
     made: u64,
 }
@@ -24,7 +23,6 @@ pub struct Memory {
 impl Memory {
     pub fn new(heap: Global) -> Self {
         Memory {
-            heap,
             slots: Vec::new(heap),
             free: Vec::new(heap),
             made: 0,
@@ -35,68 +33,58 @@ impl Memory {
     pub fn add(&mut self, value: Value, words: u64) -> Result<RootId, Stop> {
         let serial = self.made;
         self.made = serial.checked_add(1).ok_or(Stop::TooDeep)?;
-        let one = Slot {
+        let held = Some(Held {
             serial,
-            live: true,
             value,
             words,
-        };
+        });
         if let Some(slot) = self.free.pop() {
-            if slot < self.slots.len() {
-                self.slots[slot] = one;
+            if let Some(free) = self.slots.get_mut(slot) {
+                *free = held;
                 return Ok(RootId { slot, serial });
             }
         }
         let slot = self.slots.len();
-        self.slots.push(one)?;
+        self.slots.push(held)?;
         Ok(RootId { slot, serial })
     }
 
-    fn slot(&self, root: RootId) -> Option<&Slot> {
-        let slot = self.slots.get(root.slot)?;
-        if slot.live && slot.serial == root.serial {
-            Some(slot)
-        } else {
-            None
+    fn held(&self, root: RootId) -> Result<&Held, Stop> {
+        match self.slots.get(root.slot) {
+            Some(Some(held)) if held.serial == root.serial => Ok(held),
+            Some(_) | None => Err(Stop::Wrong),
         }
     }
 
     // What is at the root.
     pub fn whole(&self, root: RootId) -> Result<&Value, Stop> {
-        match self.slot(root) {
-            Some(slot) => Ok(&slot.value),
-            None => Err(Stop::Wrong),
-        }
+        Ok(&self.held(root)?.value)
     }
 
     // What is at the place.
     pub fn read(&self, place: &Place) -> Result<&Value, Stop> {
-        let whole = self.whole(place.root)?;
-        match whole.at(place.path.as_slice()) {
-            Some(part) => Ok(part),
-            None => Err(Stop::Wrong),
-        }
+        self.whole(place.root)?
+            .at(place.path.as_slice())
+            .ok_or(Stop::Wrong)
     }
 
     // The words of a box that is there.
     pub fn words(&self, root: RootId) -> Result<u64, Stop> {
-        match self.slot(root) {
-            Some(slot) => Ok(slot.words),
-            None => Err(Stop::Wrong),
-        }
+        Ok(self.held(root)?.words)
     }
 
     // Puts a value at a path from a root, and gives what was there.
     pub fn replace(&mut self, root: RootId, path: &[usize], new: Value) -> Result<Value, Stop> {
-        let at = root.slot;
-        if at >= self.slots.len() || !self.slots[at].live || self.slots[at].serial != root.serial {
-            return Err(Stop::Wrong);
+        match self.slots.get_mut(root.slot) {
+            Some(Some(held)) if held.serial == root.serial => {
+                let old = held.value.replace(path, new)?;
+                if held.value.levels() > MOST_LEVELS {
+                    return Err(Stop::TooDeep);
+                }
+                Ok(old)
+            }
+            Some(_) | None => Err(Stop::Wrong),
         }
-        let old = self.slots[at].value.replace(path, new)?;
-        if self.slots[at].value.levels() > MOST_LEVELS {
-            return Err(Stop::TooDeep);
-        }
-        Ok(old)
     }
 
     // Takes a name's value away: what was there, a hole now.
@@ -106,15 +94,15 @@ impl Memory {
 
     // Ends a root, if it is there: what it held.
     pub fn end(&mut self, root: RootId) -> Result<Value, Stop> {
-        let old = self.take(root)?;
-        if root.slot < self.slots.len() {
-            self.slots[root.slot].live = false;
-            self.free.push(root.slot)?;
-        }
-        Ok(old)
+        let slot = self.slots.get_mut(root.slot).ok_or(Stop::Wrong)?;
+        let held = slot
+            .take_if(|held| held.serial == root.serial)
+            .ok_or(Stop::Wrong)?;
+        self.free.push(root.slot)?;
+        Ok(held.value)
     }
 
     pub fn is_live(&self, root: RootId) -> bool {
-        self.slot(root).is_some()
+        self.held(root).is_ok()
     }
 }

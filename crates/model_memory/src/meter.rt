@@ -12,6 +12,7 @@ pub struct Meter {
     max_turns: u64,
 }
 
+// What a method leaves alone it says itself: no invariant of the struct could say that.
 impl Meter {
     pub fn new(stack: u64, max_turns: u64) -> Self
         ensures { (result.under ≡ 0) × (result.most_under ≡ 0) × (result.stack ≡ stack) × (result.turns ≡ 0) × (result.max_turns ≡ max_turns) }

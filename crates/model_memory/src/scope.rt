@@ -3,6 +3,7 @@ use crate::stop::Stop;
 use crate::value::RootId;
 use model_text::tree::Name;
 use std::alloc::Global;
+use std::mem;
 
 #[derive(Clone, Copy)]
 struct Binding {
@@ -31,9 +32,7 @@ impl Scope {
 
     // A call begins: none of the names is in scope in it. Where the caller's begin.
     pub fn enter(&mut self) -> usize {
-        let before = self.base;
-        self.base = self.names.len();
-        before
+        mem::replace(&mut self.base, self.names.len())
     }
 
     // A call ends.
@@ -51,19 +50,16 @@ impl Scope {
         if self.names.len() <= down_to {
             return None;
         }
-        let newest = self.names.pop()?;
-        Some(newest.root)
+        self.names.pop().map(|newest| newest.root)
     }
 
     // The root of the newest such name of the call that runs.
     pub fn root_of(&self, name: Name) -> Result<RootId, Stop> {
-        for at in (self.base..self.names.len()).rev() {
-            if let Some(one) = self.names.get(at) {
-                if one.name == name {
-                    return Ok(one.root);
-                }
-            }
-        }
-        Err(Stop::Wrong)
+        let in_scope = self.names.get(self.base..).ok_or(Stop::Wrong)?;
+        in_scope
+            .iter()
+            .rfind(|one| one.name == name)
+            .map(|one| one.root)
+            .ok_or(Stop::Wrong)
     }
 }

@@ -1,6 +1,7 @@
 // What ends a run before its end.
 use model_text::fault::Fault;
 use std::alloc::{AllocError, AllocFailed};
+use std::fmt;
 
 #[derive(Clone, Copy, PartialEq, Eq)]
 pub enum Stop {
@@ -18,10 +19,10 @@ pub enum Stop {
     Memory,
 }
 
-impl Stop {
-    // What is said of it.
-    pub fn told(self) -> &'static str {
-        match self {
+// What is said of it.
+impl fmt::Display for Stop {
+    fn fmt<W: fmt::Write>(&self, f: &mut fmt::Formatter<W>) -> fmt::Result {
+        f.write_str(match self {
             Stop::NoText => "no text",
             Stop::Wrong => "wrong",
             Stop::NoHeap => "no room for a box",
@@ -30,7 +31,7 @@ impl Stop {
             Stop::NoOutput => "no room in the output",
             Stop::TooDeep => "too deep",
             Stop::Memory => "out of memory",
-        }
+        })
     }
 }
 

@@ -1,22 +1,26 @@
 // Numbers to read, and numbers shown.
-ghost use Rattle.std.specs.Prelude.{◌≡◌, ◌+◌, ◌<◌, ◌≤◌, [], ◌∷◌, ◌++◌, is_ok, if◌then◌else◌, vec_len, slice_index};
+ghost use Rattle.std.specs.Prelude.{◌≡◌, ◌<◌, [], ◌∷◌, ◌++◌, is_ok, if◌then◌else◌};
+ghost use Rattle.std.specs.Vec.Iter.{into_iter_items, into_iter_len};
 
 use crate::stop::Stop;
 use std::alloc::Global;
+use std::vec::IntoIter;
 
 #[derive(Drop)]
 pub struct Streams {
-    inputs: Vec<u64>,
-    read: usize,
+    inputs: IntoIter<u64>,
     outputs: Vec<u64>,
     max_out: u64,
 }
 
 impl Streams {
-    pub fn new(heap: Global, inputs: Vec<u64>, max_out: u64) -> Self {
+    pub fn new(heap: Global, inputs: Vec<u64>, max_out: u64) -> Self
+        ensures inputs { into_iter_items result.inputs ≡ inputs.items }
+        ensures outputs { result.outputs.items ≡ [] }
+        ensures limit { result.max_out ≡ max_out }
+    {
         Streams {
-            inputs,
-            read: 0,
+            inputs: inputs.into_iter(),
             outputs: Vec::new(heap),
             max_out,
         }
@@ -24,17 +28,11 @@ impl Streams {
 
     // The next number to read, or 0.
     pub fn next(&mut self) -> u64
-        ensures value { self.old.read < vec_len self.old.inputs → result ≡ slice_index self.old.inputs.items self.old.read }
-        ensures ahead { self.old.read < vec_len self.old.inputs → self.new.read ≡ self.old.read + 1 }
-        ensures end { vec_len self.old.inputs ≤ self.old.read → (result ≡ 0) × (self.new.read ≡ self.old.read) }
+        ensures value { 0 < into_iter_len self.old.inputs → into_iter_items self.old.inputs ≡ result ∷ into_iter_items self.new.inputs }
+        ensures end { into_iter_len self.old.inputs ≡ 0 → (result ≡ 0) × (into_iter_items self.new.inputs ≡ []) }
         ensures shown { self.new.outputs.items ≡ self.old.outputs.items }
     {
-        if self.read >= self.inputs.len() {
-            return 0;
-        }
-        let number = self.inputs[self.read];
-        self.read += 1;
-        number
+        self.inputs.next().unwrap_or(0)
     }
 
     pub fn show(&mut self, number: u64) -> Result<(), Stop>

@@ -2,7 +2,7 @@
 // stands at its head, behind `# reads:`.
 #![tactic(auto)]
 
-use anyhow::anyhow;
+use anyhow::Context;
 use interpreter::input::numbers;
 use interpreter::run::{Limits, Outcome, run_text};
 use std::alloc::Global;
@@ -10,54 +10,33 @@ use std::{env, fs};
 
 // What a text reads, as its head has it.
 fn reads(text: &str) -> &str {
-    for line in text.lines() {
-        if let Some(rest) = line.strip_prefix("# reads:") {
-            return rest;
-        }
-    }
-    ""
+    text.lines()
+        .find_map(|line| line.strip_prefix("# reads:"))
+        .unwrap_or("")
 }
 
 fn run(heap: Global, text: &str, limits: Limits) -> anyhow::Result<Outcome> {
-    let Ok(inputs) = numbers(heap, reads(text)) else {
-        return Err(anyhow!("not a number"));
-    };
+    let inputs = numbers(heap, reads(text)).ok().context("not a number")?;
     Ok(run_text(heap, text.as_bytes(), limits, inputs))
 }
 
-// How a run came out, in words.
-fn show_end(rt: &HostRuntime, outcome: &Outcome) -> anyhow::Result<()> {
-    match outcome.end {
-        Ok(value) => print!(rt; "ended {value}")?,
-        Err(stop) => {
-            let what = stop.told();
-            print!(rt; "{what}")?
+// How a run with less comes out; where there was nothing to take away, a dash.
+fn show_less(rt: &HostRuntime, text: &str, less: Option<Limits>) -> anyhow::Result<()> {
+    match less {
+        Some(limits) => {
+            let outcome = run(rt.alloc(), text, limits)?;
+            print!(rt; ", {outcome}")?;
         }
+        None => print!(rt; ", -")?,
     }
     Ok(())
-}
-
-// How a run with less comes out; where there was nothing to take away, a dash.
-fn show_less(rt: &HostRuntime, text: &str, taken: u64, limits: Limits) -> anyhow::Result<()> {
-    if taken == 0 {
-        print!(rt; ", -")?;
-        return Ok(());
-    }
-    print!(rt; ", ")?;
-    let outcome = run(rt.alloc(), text, limits)?;
-    show_end(rt, &outcome)
 }
 
 // Just as much as a run used.
 fn exactly(outcome: &Outcome) -> Limits {
     let used = outcome.used;
-    let heap = if used.heap > 0xffff_ffff_ffff_ffff {
-        u64::MAX
-    } else {
-        used.heap as u64
-    };
     Limits {
-        heap,
+        heap: u64::try_from(used.heap).unwrap_or(u64::MAX),
         stack: used.stack,
         turns: used.turns,
         out: outcome.shown.len() as u64,
@@ -66,71 +45,44 @@ fn exactly(outcome: &Outcome) -> Limits {
 }
 
 // What was shown, how it ended, and what that took.
-fn show_whole(rt: &HostRuntime, outcome: &Outcome, all: Limits) -> anyhow::Result<()> {
-    for k in outcome.shown.iter() {
+fn show_whole(rt: &HostRuntime, outcome: &Outcome) -> anyhow::Result<()> {
+    for k in &outcome.shown {
         print!(rt; " {k}")?;
     }
-    print!(rt; "; ")?;
-    show_end(rt, outcome)?;
-    let (heap, stack, turns) = (all.heap, all.stack, all.turns);
-    print!(rt; "; heap={heap} stack={stack} turns={turns}; just so: ")?;
+    let used = outcome.used;
+    print!(rt; "; {outcome}; {used}; just so: ")?;
     Ok(())
+}
+
+// All that a run used, with one less of one thing at a time; nothing where there was none of it.
+fn one_less(all: Limits) -> [Option<Limits>; 4] {
+    [
+        all.heap.checked_sub(1).map(|heap| Limits { heap, ..all }),
+        all.stack
+            .checked_sub(1)
+            .map(|stack| Limits { stack, ..all }),
+        all.turns
+            .checked_sub(1)
+            .map(|turns| Limits { turns, ..all }),
+        all.out.checked_sub(1).map(|out| Limits { out, ..all }),
+    ]
 }
 
 fn show(rt: &HostRuntime, text: &str) -> anyhow::Result<()> {
     let first = run(rt.alloc(), text, Limits::large())?;
+    show_whole(rt, &first)?;
     let all = exactly(&first);
-    show_whole(rt, &first, all)?;
     let again = run(rt.alloc(), text, all)?;
-    show_end(rt, &again)?;
-    print!(rt; "; one less")?;
-    show_less(
-        rt,
-        text,
-        all.heap,
-        Limits {
-            heap: all.heap.saturating_sub(1),
-            ..all
-        },
-    )?;
-    show_less(
-        rt,
-        text,
-        all.stack,
-        Limits {
-            stack: all.stack.saturating_sub(1),
-            ..all
-        },
-    )?;
-    show_less(
-        rt,
-        text,
-        all.turns,
-        Limits {
-            turns: all.turns.saturating_sub(1),
-            ..all
-        },
-    )?;
-    show_less(
-        rt,
-        text,
-        all.out,
-        Limits {
-            out: all.out.saturating_sub(1),
-            ..all
-        },
-    )?;
+    print!(rt; "{again}; one less")?;
+    for less in one_less(all) {
+        show_less(rt, text, less)?;
+    }
     println!(rt; "")?;
     Ok(())
 }
 
 fn run_all(rt: &HostRuntime) -> anyhow::Result<()> {
-    let mut args = env::args(rt)?;
-    let _ = args.next();
-    for _ in 0..u64::MAX {
-        let Some(name) = args.next() else {
-            break;
-        };
+    for name in env::args(rt)?.skip(1) {
         let text = fs::read_to_string(rt, name.as_str())?;
         print!(rt; "{name}:")?;
         show(rt, text.as_str())?;
