@@ -1,7 +1,7 @@
 -- What's read from the words is what the machine has.
 use Rattle.std.proofs.Common.{◌≡◌, ℕ, zero, suc, ◌+◌, ◌-◌, ◌*◌, ◌<◌, ◌≤◌, min, Bool, true, false, not, ◌||◌, List, [], ◌∷◌, ◌++◌, length, get_or, Ok, Err, sym, refl, ap, ◌∙◌, subst, ap₂, append_assoc, arith}
 use mathlib.Core.Option.{Option, some, none}
-use Rattle.language.specs.Base.{if_some, only_if, present, some_of, Lexeme}
+use Rattle.language.specs.Base.{if_some, only_if, some_of, Lexeme}
 use Rattle.language.specs.Checks.{Loan}
 use Rattle.scope.specs.Log.{Log, Gone, find, entry_at, part, lives, segments}
 use Rattle.scope.specs.Loans.{Ent, slice, leaves}
@@ -14,7 +14,7 @@ use Rattle.checker.specs.declared.frames.Frame.{Frame}
 use Rattle.checker.specs.declared.frames.Frame.TheVariants.{Call as ACall}
 use Rattle.checker.specs.FrameWords.{frame_at}
 use Rattle.checker.specs.Marks.{Mark, k_call, k_then, k_else, k_test, k_loop, k_match, State2, log_of, held2, scope, live}
-use Rattle.checker.specs.Machine.{there2, fresh2}
+use Rattle.checker.specs.Machine.{there2}
 use Rattle.checker.specs.Stands.{Decls, Lent, Stands, tops, whole, Gap, Gapped, Tops, below, Is, is_call, is_then, is_else, is_test, is_loop, is_match, Framed, no_frame, one_frame}
 use Rattle.checker.specs.Held.{held_from, held_in, There}
 
@@ -89,9 +89,6 @@ held_yes f text args frames n top c b z h e s y q = sym (ap (λ es. some_of f (l
 pub held_no : (f : Loan → Bool) (text args frames : List ℕ) (n top : ℕ) (c : Call) (b z : Bool) → 0 < n → ACall c ≡ frame_at frames (n - 1) → b ≡ some_of f (leaves (slice text args c.base (top - c.base))) → b ≡ false → some_of f (leaves (held_in text args frames n top)) ≡ z → some_of f (leaves (held_in text args frames (n - 1) (min top c.base))) ≡ z
 held_no f text args frames n top c b z h e s y q = sym (ap (λ es. some_of f (leaves es)) (held_step text args frames n top (ACall c) h e) ∙ ap (some_of f) (leaves-++ (slice text args c.base (top - c.base)) (held_in text args frames (n - 1) (min top c.base))) ∙ some_of-++ f (leaves (slice text args c.base (top - c.base))) (leaves (held_in text args frames (n - 1) (min top c.base))) ∙ ap (λ b. b || some_of f (leaves (held_in text args frames (n - 1) (min top c.base)))) (sym s ∙ y)) ∙ q
 
-pub held_end : (f : Loan → Bool) (text args frames : List ℕ) (n top : ℕ) (g : Frame) (z : Bool) → 0 < n → g ≡ frame_at frames (n - 1) → held_from text args g top (λ t. held_in text args frames (n - 1) t) ≡ [] → some_of f (leaves (held_in text args frames n top)) ≡ z → false ≡ z
-held_end f text args frames n top g z h e o q = sym (ap (λ es. some_of f (leaves es)) (held_step text args frames n top g h e ∙ o)) ∙ q
-
 -- asked of arguments and names
 pub both_lent : (f : Loan → Bool) (a b : List Ent) (x y : Bool) → x ≡ some_of f (leaves a) → y ≡ some_of f (leaves b) → (x || y) ≡ some_of f (leaves (a ++ b))
 both_lent f a b x y p q = ap₂ ◌||◌ p q ∙ sym (some_of-++ f (leaves a) (leaves b)) ∙ sym (ap (some_of f) (leaves-++ a b))
@@ -103,9 +100,6 @@ live_is d w h s st = lives_is w.log w.gaps s.frames h.gaps h.log s.log st.log st
 module _ (d : Decls) (w : Lent) (h : State) (s : State2) (st : Stands d w h s) (x : Lexeme) (k : ℕ) (e : Rule) where
   Names : List Slot
   Names = slots_of w.text w.code w.names w.loans h.names h.loans
-
-  pub there_not : seek (slots_of w.text w.code w.names w.loans h.names h.loans) x ≡ none → There w.text w.code w.names h.names x (there2 (scope s) (live s) x) (Err e)
-  there_not q = subst (λ vs. There w.text w.code w.names h.names x (there2 vs (live s) x) (Err e)) st.names (subst (λ o. There w.text w.code w.names h.names x (if_some o (λ f. only_if (not (find (live s) (length f.older))) (some f))) (Err e)) (sym q) tt)
 
   pub there_gone : Sought w.text w.code w.names h.names x k (seek (slots_of w.text w.code w.names w.loans h.names h.loans) x) → true ≡ find (lives w.log w.gaps h.gaps h.log) k → There w.text w.code w.names h.names x (there2 (scope s) (live s) x) (Err e)
   there_gone q g = subst (λ vs. There w.text w.code w.names h.names x (there2 vs (live s) x) (Err e)) st.names (go (seek (slots_of w.text w.code w.names w.loans h.names h.loans) x) q)
@@ -120,28 +114,6 @@ module _ (d : Decls) (w : Lent) (h : State) (s : State2) (st : Stands d w h s) (
       go : (o : Option Found) → Sought w.text w.code w.names h.names x k o → There w.text w.code w.names h.names x (if_some o (λ f. only_if (not (find (live s) (length f.older))) (some f))) (Ok (record { 0 = k }))
       go none q = q
       go (some f) q = subst (λ b. There w.text w.code w.names h.names x (only_if (not b) (some f)) (Ok (record { 0 = k }))) (g ∙ ap₂ find (live_is d w h s st) (sym q.2)) q
-
-  -- one that's in scope, be it gone or not
-  pub scope_yes : Sought w.text w.code w.names h.names x k (seek (slots_of w.text w.code w.names w.loans h.names h.loans) x) → There w.text w.code w.names h.names x (seek (scope s) x) (Ok (record { 0 = k }))
-  scope_yes q = subst (λ vs. There w.text w.code w.names h.names x (seek vs x) (Ok (record { 0 = k }))) st.names (go (seek (slots_of w.text w.code w.names w.loans h.names h.loans) x) q)
-    where
-      go : (o : Option Found) → Sought w.text w.code w.names h.names x k o → There w.text w.code w.names h.names x o (Ok (record { 0 = k }))
-      go none q = q
-      go (some f) q = q
-
-  pub scope_no : seek (slots_of w.text w.code w.names w.loans h.names h.loans) x ≡ none → There w.text w.code w.names h.names x (seek (scope s) x) (Err e)
-  scope_no q = subst (λ vs. There w.text w.code w.names h.names x (seek vs x) (Err e)) st.names (subst (λ o. There w.text w.code w.names h.names x o (Err e)) (sym q) tt)
-
-  -- a new name, and one that's in scope already
-  pub fresh_yes : seek (slots_of w.text w.code w.names w.loans h.names h.loans) x ≡ none → fresh2 (scope s) x ≡ true
-  fresh_yes q = sym (ap (λ vs. fresh2 vs x) st.names) ∙ ap (λ o. not (present o)) q
-
-  pub fresh_no : Sought w.text w.code w.names h.names x k (seek (slots_of w.text w.code w.names w.loans h.names h.loans) x) → fresh2 (scope s) x ≡ false
-  fresh_no q = sym (ap (λ vs. fresh2 vs x) st.names) ∙ go (seek (slots_of w.text w.code w.names w.loans h.names h.loans) x) q
-    where
-      go : (o : Option Found) → Sought w.text w.code w.names h.names x k o → not (present o) ≡ false
-      go none q = absurd q
-      go (some f) q = refl
 
 pub lent_now : (d : Decls) (w : Lent) (h : State) (s : State2) → Stands d w h s → (f : Loan → Bool) (x y b : Bool) → x ≡ b → x ≡ some_of f (leaves (held_in w.text w.args w.frames h.frames h.base)) → y ≡ some_of f (leaves (stack (scope s))) → (b || y) ≡ some_of f (leaves (held2 s.frames ++ stack (scope s)))
 lent_now d w h s st f x y b e p q = both_lent f (held2 s.frames) (stack (scope s)) b y (sym e ∙ p ∙ ap (λ es. some_of f (leaves es)) (held_is d w.text w.code w.args w.seen w.ends w.frames h.frames (tops h) s.frames st.frames)) q

@@ -93,6 +93,7 @@ pub fn seek(text: &[u8], names: &[u64], height: usize, name: Name) -> Option<Pla
     requires { 7 * height ≤ length names.now }
     ensures { (code es : List ℕ) (top : ℕ) → MatchOption result (Seek (slots_of text.now code names.now es height top) (spelling text.now name) ≡ Nothing) (λ p. Sought text.now code names.now height (spelling text.now name) p.0 (Seek (slots_of text.now code names.now es height top) (spelling text.now name))) }
 {
+    // No `find`, here and in `said`: what `rev` of a range yields, no lemma says.
     for h in (0..height).rev() {
         if same_name(text, Variable::load(names, h).name, name) {
             return Some(Place(h));

@@ -1,9 +1,9 @@
-use Rattle.std.proofs.Common.{◌-◌, refl, ap, ◌∙◌, arith}
+use Rattle.std.proofs.Common.{◌-◌, ap, ◌∙◌, arith}
 use Rattle.language.specs.Base.{some_of}
 use Rattle.lexer.specs.Spelling.{spelling}
 use Rattle.scope.specs.Loans.{asks, leaves}
 use Rattle.checker.specs.Held.{held_in}
-use Rattle.checker.proofs.Decoded.{held_yes, held_no, held_end}
+use Rattle.checker.proofs.Decoded.{held_yes, held_no}
 use Rattle.checker.proofs.ask.is_held.Goals as goal
 
 pub returns-then-is_lent : goal.returns-then-is_lent
@@ -11,18 +11,3 @@ returns-then-is_lent c = held_yes (asks c.args.asked (spelling c.args.text.now c
 
 pub loop-n-preserved : goal.loop-n-preserved
 loop-n-preserved c = (omega arith, ap (λ t. some_of (asks c.args.asked (spelling c.args.text.now c.args.name)) (leaves (held_in c.args.text.now c.args.args.now c.args.frames.now (c.loop-n.n - 1) t))) c.min-top.ensures ∙ held_no (asks c.args.asked (spelling c.args.text.now c.args.name)) c.args.text.now c.args.args.now c.args.frames.now c.loop-n.n c.loop-n.top c.in-Call.call _ _ c.loop-n-test.true c.in-Call.ensures c.is_lent.ensures c.if-is_lent.false c.loop-n.invariant.1)
-
-pub returns-in-Then : goal.returns-in-Then
-returns-in-Then c = held_end (asks c.args.asked (spelling c.args.text.now c.args.name)) c.args.text.now c.args.args.now c.args.frames.now c.loop-n.n c.loop-n.top _ _ c.loop-n-test.true c.in-Then.ensures refl c.loop-n.invariant.1
-
-pub returns-in-Else : goal.returns-in-Else
-returns-in-Else c = held_end (asks c.args.asked (spelling c.args.text.now c.args.name)) c.args.text.now c.args.args.now c.args.frames.now c.loop-n.n c.loop-n.top _ _ c.loop-n-test.true c.in-Else.ensures refl c.loop-n.invariant.1
-
-pub returns-in-Test : goal.returns-in-Test
-returns-in-Test c = held_end (asks c.args.asked (spelling c.args.text.now c.args.name)) c.args.text.now c.args.args.now c.args.frames.now c.loop-n.n c.loop-n.top _ _ c.loop-n-test.true c.in-Test.ensures refl c.loop-n.invariant.1
-
-pub returns-in-Loop : goal.returns-in-Loop
-returns-in-Loop c = held_end (asks c.args.asked (spelling c.args.text.now c.args.name)) c.args.text.now c.args.args.now c.args.frames.now c.loop-n.n c.loop-n.top _ _ c.loop-n-test.true c.in-Loop.ensures refl c.loop-n.invariant.1
-
-pub returns-in-Match : goal.returns-in-Match
-returns-in-Match c = held_end (asks c.args.asked (spelling c.args.text.now c.args.name)) c.args.text.now c.args.args.now c.args.frames.now c.loop-n.n c.loop-n.top _ _ c.loop-n-test.true c.in-Match.ensures refl c.loop-n.invariant.1

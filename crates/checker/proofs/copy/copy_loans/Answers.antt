@@ -1,5 +1,5 @@
-use Rattle.std.proofs.Common.{◌≡◌, ◌+◌, [], length, sym, ap, ◌∙◌, arith}
-use Rattle.scope.specs.Loans.{slice, loan_at}
+use Rattle.std.proofs.Common.{◌≡◌, ◌+◌, [], length, ap, ◌∙◌, arith}
+use Rattle.scope.specs.Loans.{loan_at}
 use Rattle.checker.specs.Stands.{with_loans}
 use Rattle.checker.proofs.Entering.{copied_on}
 use Rattle.checker.proofs.copy.copy_loans.Goals as goal
@@ -14,10 +14,3 @@ loop-i-preserved c = (
   c.put_loan.ensures.long ∙ c.loop-i.invariant.2,
   (λ text code. c.put_loan.ensures.kept text code ∙ ap (λ w. with_loans w c.put_loan.new.words.loans.now) (c.loop-i.invariant.3 text code)),
 )
-
-pub returns : goal.returns
-returns c = let e : c.loop-i.i ≡ c.args.count = omega arith in record {
-  copied = λ text. sym (ap (slice text c.loop-i.words.loans.now c.args.to) e) ∙ c.loop-i.invariant.0 text ∙ ap (slice text c.args.words.now.args.now c.args.base) e;
-  below = c.loop-i.invariant.1;
-  kept = c.loop-i.invariant.3;
-}

@@ -11,14 +11,5 @@ use Rattle.checker.proofs.value.use_name.Goals as goal
 pub returns-in-Int : goal.returns-in-Int
 returns-in-Int c = λ d p s st. on_there d (lent c.args.source.now c.args.words.now) c.copied.new.at c.args.source.now.text.now c.args.source.now.code.now c.args.words.now.names.now c.args.at.now.names (spelling c.args.source.now.text.now c.args.name) (there2 (scope s) (live s) (spelling c.args.source.now.text.now c.args.name)) c.in_ok-place.place (λ f. value2 s f f.slot.ty) c.copied.result (c.in_ok-place.ensures.is d s st) (λ f a. subst (λ (u : Ty). Steps d (lent c.args.source.now c.args.words.now) c.copied.new.at (value2 s f u) c.copied.result) (sym (a.1 ∙ sym (ap (type_of c.args.source.now.text.now c.args.source.now.code.now) c.type_at-ty.ensures) ∙ sym (c.in-Int.ensures.layer c.args.source.now.text.now))) (c.copied.ensures d s f a.0 st))
 
-pub returns-in-Data : goal.returns-in-Data
-returns-in-Data c = λ d p s st. on_there d (lent c.args.source.now c.moved_out.new.words) c.moved_out.new.at c.args.source.now.text.now c.args.source.now.code.now c.args.words.now.names.now c.args.at.now.names (spelling c.args.source.now.text.now c.args.name) (there2 (scope s) (live s) (spelling c.args.source.now.text.now c.args.name)) c.in_ok-place.place (λ f. value2 s f f.slot.ty) c.moved_out.result (c.in_ok-place.ensures.is d s st) (λ f a. subst (λ (u : Ty). Steps d (lent c.args.source.now c.moved_out.new.words) c.moved_out.new.at (value2 s f u) c.moved_out.result) (sym (a.1 ∙ sym (ap (type_of c.args.source.now.text.now c.args.source.now.code.now) c.type_at-ty.ensures) ∙ sym (c.in-Data.ensures.layer c.args.source.now.text.now))) (c.moved_out.ensures d s f _ a.0 a.2 (sym (c.in-Data.ensures.layer c.args.source.now.text.now)) st))
-
-pub returns-in-Box : goal.returns-in-Box
-returns-in-Box c = λ d p s st. on_there d (lent c.args.source.now c.moved_out-in-Box.new.words) c.moved_out-in-Box.new.at c.args.source.now.text.now c.args.source.now.code.now c.args.words.now.names.now c.args.at.now.names (spelling c.args.source.now.text.now c.args.name) (there2 (scope s) (live s) (spelling c.args.source.now.text.now c.args.name)) c.in_ok-place.place (λ f. value2 s f f.slot.ty) c.moved_out-in-Box.result (c.in_ok-place.ensures.is d s st) (λ f a. subst (λ (u : Ty). Steps d (lent c.args.source.now c.moved_out-in-Box.new.words) c.moved_out-in-Box.new.at (value2 s f u) c.moved_out-in-Box.result) (sym (a.1 ∙ sym (ap (type_of c.args.source.now.text.now c.args.source.now.code.now) c.type_at-ty.ensures) ∙ sym (c.in-Box.ensures.layer c.args.source.now.text.now))) (c.moved_out-in-Box.ensures d s f _ a.0 a.2 (sym (c.in-Box.ensures.layer c.args.source.now.text.now)) st))
-
-pub returns-in-Ref : goal.returns-in-Ref
-returns-in-Ref c = λ d p s st. on_there d (lent c.args.source.now c.shared_again.new.words) c.shared_again.new.at c.args.source.now.text.now c.args.source.now.code.now c.args.words.now.names.now c.args.at.now.names (spelling c.args.source.now.text.now c.args.name) (there2 (scope s) (live s) (spelling c.args.source.now.text.now c.args.name)) c.in_ok-place.place (λ f. value2 s f f.slot.ty) c.shared_again.result (c.in_ok-place.ensures.is d s st) (λ f a. subst (λ (u : Ty). Steps d (lent c.args.source.now c.shared_again.new.words) c.shared_again.new.at (value2 s f u) c.shared_again.result) (sym (a.1 ∙ sym (ap (type_of c.args.source.now.text.now c.args.source.now.code.now) c.type_at-ty.ensures) ∙ sym (c.in-Ref.ensures.layer c.args.source.now.text.now))) (c.shared_again.ensures d s f _ a.0 a.2 (sym (c.in-Ref.ensures.layer c.args.source.now.text.now)) st))
-
 pub returns-in-Mut : goal.returns-in-Mut
 returns-in-Mut c = λ d p s st. on_there d (lent c.args.source.now c.lent_on.new.words) c.lent_on.new.at c.args.source.now.text.now c.args.source.now.code.now c.args.words.now.names.now c.args.at.now.names (spelling c.args.source.now.text.now c.args.name) (there2 (scope s) (live s) (spelling c.args.source.now.text.now c.args.name)) c.in_ok-place.place (λ f. value2 s f f.slot.ty) c.lent_on.result (c.in_ok-place.ensures.is d s st) (λ f a. subst (λ (u : Ty). Steps d (lent c.args.source.now c.lent_on.new.words) c.lent_on.new.at (value2 s f u) c.lent_on.result) (sym (a.1 ∙ sym (ap (type_of c.args.source.now.text.now c.args.source.now.code.now) c.type_at-ty.ensures) ∙ sym (c.in-Mut.ensures.layer c.args.source.now.text.now))) (c.lent_on.ensures d s f _ a.0 (sym (c.in-Mut.ensures.layer c.args.source.now.text.now)) st))
