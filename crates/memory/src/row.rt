@@ -1,6 +1,6 @@
 ghost use Rattle.std.specs.Prelude.{◌≡◌, ℕ, ◌+◌, ◌<◌, ◌≤◌, List, ◌∷◌, length, slice_index, slice_set};
 ghost use Rattle.memory.specs.Row.{heap_words, stack_words, row, Moved, Apart, SamePools};
-ghost use Rattle.std.proofs.Common.{rules};
+ghost use Rattle.memory.specs.Spans.{fewer_below, in_front, behind};
 
 use crate::pool::{Address, Pools, Size};
 
@@ -13,7 +13,7 @@ pub struct Memory<'a> {
 
 // Words one behind the other in the row.
 pub trait Span {
-    // where they lie in the row, if boxes have so many words; whether so many words are there
+    // where they lie in the row, if boxes have so many words; whether so many words are there; and two facts on these
     ghost start: { Self → ℕ → ℕ };
 
     ghost has: { Self → ℕ → ℕ → ℕ → Type 0 };
@@ -55,9 +55,9 @@ impl Span for InBox {
 
     ghost has = { λ s h k n. s.0.0 + n ≤ h };
 
-    ghost fewer = { Prim.search rules };
+    ghost fewer = { λ s h k n i. fewer_below s.0.0 h n i };
 
-    ghost within = { Prim.search rules };
+    ghost within = { λ s h k n. in_front s.0.0 h k n };
 }
 
 impl Source for InBox {
@@ -72,9 +72,9 @@ impl Span for UnderWay {
 
     ghost has = { λ s h k n. s.0.0 + n ≤ k };
 
-    ghost fewer = { Prim.search rules };
+    ghost fewer = { λ s h k n i. fewer_below s.0.0 k n i };
 
-    ghost within = { Prim.search rules };
+    ghost within = { λ s h k n. behind s.0.0 h k n };
 }
 
 impl Source for UnderWay {
@@ -101,9 +101,9 @@ impl Span for Referred {
 
     ghost has = { λ s h k n. s.0.0 + n ≤ h + k };
 
-    ghost fewer = { Prim.search rules };
+    ghost fewer = { λ s h k n i. fewer_below s.0.0 (h + k) n i };
 
-    ghost within = { Prim.search rules };
+    ghost within = { λ s h k n there. there };
 }
 
 impl Source for Referred {
