@@ -122,6 +122,7 @@ pub struct Listing<'a> {
 impl fmt::Display for Listing<'_> {
     fn fmt<W: fmt::Write>(&self, f: &mut fmt::Formatter<W>) -> fmt::Result {
         for (k, slot) in self.words.chunks_exact(3).enumerate() {
+            // A match: both cases write a line.
             match decode(slot, 0) {
                 Some(instr) => {
                     let listed = Listed {

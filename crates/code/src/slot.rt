@@ -5,6 +5,7 @@ ghost use Rattle.code.specs.Words.{slot_in, with_slot};
 use crate::record::Record;
 
 // The three words of an instruction: an opcode and two operands. Opcodes below 22 have no operand, those from 22 to 37 one name.
+// They are numbers for kinds, since slots lie in lent words.
 #[derive(Clone, Copy)]
 pub struct Slot {
     pub op: u64,

@@ -5,6 +5,7 @@ use crate::instr::Instr;
 use crate::slot::Slot;
 use lexer::Name;
 
+// By the number of names: a word that stands for a name is made here only.
 fn named(op: u64, x: Name) -> Slot
     ensures { result ≡ slot op x.0 0 }
 {
@@ -29,6 +30,7 @@ impl From<Instr> for Slot {
     ghost from_gives = { λ i s. s ≡ slot_of i };
 
     fn from(instr: Instr) -> Slot {
+        // Long, here and in from_slot and listing, since every arm is written.
         match instr {
             Instr::Int => Slot::plain(0),
             Instr::Arg => Slot::plain(1),

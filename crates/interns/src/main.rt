@@ -17,6 +17,7 @@ fn push_instr(words: &mut Vec<u64>, instr: Instr) -> Result<(), AllocError> {
 fn names_of(heap: Global, text: &[u8]) -> Result<Vec<u64>, AllocError> {
     let mut words = Vec::new(heap);
     let mut lexer = Lexer::new(text);
+    // The lexer's `next` has a contract of its own, and is no Iterator's.
     while let Some(token) = lexer.next() {
         match token {
             Token::Lower(x) => push_instr(&mut words, Instr::Var(x))?,

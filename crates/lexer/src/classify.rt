@@ -8,6 +8,7 @@ use crate::name::Name;
 use crate::token::Token;
 use crate::word::{keyword, number, sign};
 
+// These say of a byte what the definitions call it.
 fn is_digit(b: u8) -> bool
     ensures { result ≡ digit b }
 {

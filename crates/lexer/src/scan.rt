@@ -23,6 +23,7 @@ pub fn skip_blanks(text: &[u8], start: usize) -> usize
     ensures stops { result < length text.now → skipped (slice_index text.now result) ≡ false }
     ensures within { (start ≤ result) × (result ≤ length text.now) }
 {
+    // A flag: the definition's own state, in a comment or not.
     let mut comment = false;
     for (i, b) in text[start..].iter().enumerate() {
         if comment {

@@ -1,5 +1,5 @@
 ghost use Rattle.std.specs.Prelude.{◌≡◌};
-ghost use Rattle.lexer.specs.Tokens.{spelled};
+ghost use Rattle.lexer.specs.Tokens.{spelled, drawn};
 
 use crate::token::{Keyword, Sign};
 use std::fmt;
@@ -40,9 +40,12 @@ impl fmt::Display for Keyword {
     }
 }
 
-impl fmt::Display for Sign {
-    fn fmt<W: fmt::Write>(&self, f: &mut fmt::Formatter<W>) -> fmt::Result {
-        f.write_str(match self {
+impl Sign {
+    // How a program writes it.
+    pub(crate) fn text(self) -> &'static str
+        ensures { result.now ≡ drawn self }
+    {
+        match self {
             Sign::LeftParen => "(",
             Sign::RightParen => ")",
             Sign::LeftBrace => "{",
@@ -60,6 +63,12 @@ impl fmt::Display for Sign {
             Sign::Minus => "-",
             Sign::Slash => "/",
             Sign::Percent => "%",
-        })
+        }
+    }
+}
+
+impl fmt::Display for Sign {
+    fn fmt<W: fmt::Write>(&self, f: &mut fmt::Formatter<W>) -> fmt::Result {
+        f.write_str(self.text())
     }
 }

@@ -44,7 +44,7 @@ pub struct Spelled<'a> {
 impl fmt::Display for Spelled<'_> {
     fn fmt<W: fmt::Write>(&self, f: &mut fmt::Formatter<W>) -> fmt::Result {
         for b in name_bytes(self.text, self.name) {
-            let letter = *b as char;
+            let letter = char::from(*b);
             write!(f, "{letter}")?;
         }
         Ok(())

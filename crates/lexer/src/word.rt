@@ -12,6 +12,7 @@ pub fn number(lexeme: &[u8]) -> Option<u64>
     ensures { MatchOption result (value_of lexeme.now ≡ none) (λ n. value_of lexeme.now ≡ some n) }
 {
     let mut n: u64 = 0;
+    // A `for` with `?`: try_fold reads harder.
     for b in lexeme {
         if !b.is_ascii_digit() {
             return None;
@@ -55,7 +56,7 @@ pub fn keyword(lexeme: &[u8]) -> Option<Keyword>
         .find(|k| lexeme == k.word().as_bytes())
 }
 
-// The sign that a byte is.
+// The sign that a byte is. A match and no search over the signs: it is one jump.
 fn sign_of(b: u8) -> Option<Sign>
     ensures { MatchOption result (is_in (b ∷ []) signs ≡ false) (λ s. b ∷ [] ≡ drawn s) }
 {

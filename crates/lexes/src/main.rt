@@ -20,6 +20,7 @@ fn report(rt: &HostRuntime, label: &str, text: &[u8]) -> anyhow::Result<()> {
 // The pattern again and again.
 fn repeated(heap: Global, pattern: &[u8], times: usize) -> Result<Vec<u8>, AllocError> {
     let mut text = Vec::new(heap);
+    // The library has no `repeat` for slices.
     for _ in 0..times {
         text.extend_from_slice(pattern)?;
     }

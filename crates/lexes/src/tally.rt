@@ -56,6 +56,7 @@ pub fn tally_of(text: &[u8]) -> Tally
 {
     let mut tally = Tally::default();
     let mut lexer = Lexer::new(text);
+    // The lexer's `next` has a contract of its own, and is no Iterator's.
     while let Some(token) = lexer.next() {
         tally.count(token);
     }

@@ -4,4 +4,3 @@ pub mod Pooled
 pub mod Peaks
 pub mod Asked
 pub mod Row
-pub mod Spans

@@ -38,7 +38,7 @@ pub trait Pool {
 }
 
 // The words; for each size the first free place, and 1, or 0; and the first word that was never in use.
-// A free place's first word leads to the next in the same way.
+// A free place's first word leads to the next in the same way. 0 and no None: the words are lent, and an Option is no word.
 #[derive(Drop)]
 pub struct Pools<'a> {
     pub words: &'a mut [u64],

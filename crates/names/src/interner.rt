@@ -8,7 +8,8 @@ use crate::hash::hash_of;
 use crate::spot::Spot;
 use lexer::{Name, same_name};
 
-// Names by number over a text: each spelling has one place in a table. The table lies in lent words, since nothing here allocates.
+// Names by number over a text: each spelling has one place in a table. The table lies in lent words, since nothing here allocates;
+// a bucket holds a place and one more, and 0 where it is free.
 #[derive(Drop)]
 pub struct Interner<'a> {
     text: &'a [u8],
@@ -47,13 +48,12 @@ impl<'a> Interner<'a> {
         requires { to ≤ length self.now.table.now }
         ensures { MatchOption result (PassedIn self.now.text.now self.now.table.now (spelling self.now.text.now name) from to) (StoppedIn self.now.text.now self.now.table.now name from to) }
     {
-        // By number, which a free bucket is told by.
+        // By number: both ranges are of one table, and a free bucket is told by its place in it.
         for i in from..to {
-            let entry = self.table[i];
-            if entry == 0 {
+            let Some(place) = self.table[i].checked_sub(1) else {
                 return Some(Spot::Free(i));
-            }
-            let other = Name(entry as usize - 1);
+            };
+            let other = Name(place as usize);
             if same_name(self.text, other, name) {
                 return Some(Spot::Taken(other));
             }

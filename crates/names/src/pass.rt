@@ -17,7 +17,7 @@ pub fn canonical(text: &[u8], words: &mut [u64], n: usize, table: &mut [u64]) ->
     ensures names { OnOk result (Canonical text.now words.new n) }
 {
     let mut interner = Interner::new(text, table);
-    // By number, as decode and encode take a slot.
+    // By number: the contract says of each slot by its number what it holds, and of the words behind the n-th that they stay.
     for k in 0..n {
         if let Some(instr) = decode(words, k) {
             let named = interner.rename(instr)?;

@@ -9,6 +9,7 @@ use crate::interner::Interner;
 use code::{Instr, Slot};
 use lexer::Name;
 
+// By opcode: a match over instructions would have 44 arms, each of which says one of two things.
 fn is_first_named(op: u64) -> bool
     ensures { result ≡ first_named op }
 {
@@ -23,6 +24,7 @@ fn is_second_named(op: u64) -> bool
 
 impl Interner<'_> {
     // An operand's new word: the place in the table for a name, and the same word for another operand.
+    // What stays is told here one by one, as in intern and rename: a caller cites each by its name.
     fn operand(&mut self, named: bool, word: u64) -> Result<u64, Full>
         ensures text { self.new.text.now ≡ self.old.text.now }
         ensures same_reference { self.new.table.ghost_name ≡ self.old.table.ghost_name }

@@ -59,6 +59,7 @@ pub fn is_gone(log: &[u64], top: usize, gaps: &[u64], count: usize, place: Place
     ensures { result ≡ Found (lives log.now gaps.now count top) place.0 }
 {
     let mut t = top;
+    // By number: each gap lowers how far the log is read. A gap is no Record, since nothing stores one here.
     for g in (0..count).rev() {
         if let Some(gone) = said(log, gaps[2 * g + 1] as usize, t, place) {
             return gone;

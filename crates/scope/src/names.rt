@@ -117,6 +117,7 @@ pub fn has_loan(
 {
     let mut t = top;
     for h in (0..height).rev() {
+        // No `any` over the names: each name's loans end where the newer one's begin.
         let from = Variable::load(names, h).loans;
         if is_lent(text, loans, from, t, name, asked) {
             return true;

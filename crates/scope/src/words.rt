@@ -11,7 +11,7 @@ pub fn write(words: &mut [u64], at: usize, values: &[u64])
     words[at..end].copy_from_slice(values);
 }
 
-// Two words: which case of an enum, and of what.
+// Two words: which case of an enum, and of what. A number for the case, since it lies in lent words.
 #[derive(Clone, Copy)]
 pub struct Tagged {
     pub tag: u64,

@@ -21,6 +21,7 @@ fn note(room: &mut Room, done: Progress, at: usize, instr: Instr) -> Progress
     ensures lengths { SameLengths (words_of room.old) (words_of room.new) }
 {
     let mut next = done;
+    // Long, since every arm is written.
     match instr {
         Instr::Field => {
             room.fields[done.fields.end] = at as u64;
@@ -94,6 +95,7 @@ fn note_all(code: &[u64], size: usize, room: &mut Room) -> Progress
     ensures lengths { SameLengths (words_of room.old) (words_of room.new) }
 {
     let mut done = Progress::START;
+    // By number: decode takes a slot by it, and each turn writes into lent words.
     for i in 0..size {
         done = note_slot(code, room, done, i);
     }

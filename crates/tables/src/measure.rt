@@ -47,6 +47,7 @@ impl Sizing<'_> {
         ensures { Says (if_some (fields_by (sizes_by self.entry) (all_in (the_field self.entry.tables) fields)) cap) result }
     {
         let mut sum = 0;
+        // A `for` with `?`: the sum is given up on the way. By number: a span's first may lie behind its end, as no slice's does.
         for j in fields.first..fields.end {
             let size = self.type_size(self.tables.fields[j] as usize)?;
             if size > LARGEST - sum {
@@ -64,15 +65,16 @@ impl Sizing<'_> {
     {
         let tables = self.tables;
         let mut most = 0u64;
+        // A `for` with `?`: the search for the largest is given up on the way.
         for number in ctors.first..ctors.end {
             let size = self.fields_size(CtorRef { tables, number }.fields())?;
             most = most.max(size);
         }
-        if most < LARGEST { Some(1 + most) } else { None }
+        (most < LARGEST).then(|| 1 + most)
     }
 
     // The size of a data type, from those that are known, if it isn't too large.
-    pub fn data_size(self, number: usize) -> Option<u64>
+    pub(crate) fn data_size(self, number: usize) -> Option<u64>
         requires { number < self.tables.done.datas }
         ensures { Says (data_by (sizes_by self.entry) (the_data self.entry.tables number)) result }
     {

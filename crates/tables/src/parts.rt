@@ -18,6 +18,7 @@ impl Tables<'_> {
         requires { fields.end ≤ self.done.fields.end }
         ensures { result ≡ each_of (ok_field (datas_in self.entry)) (all_in (the_field self.entry) fields) }
     {
+        // By number: a span's first may lie behind its end, as no slice's does.
         (fields.first..fields.end).all(|j| self.field_ok(self.fields[j] as usize))
     }
 

@@ -12,6 +12,7 @@ pub struct Progress {
 }
 
 impl Progress {
+    // A const and no Default: proofs have what it is by its value.
     pub const START: Progress = Progress {
         datas: 0,
         fns: 0,

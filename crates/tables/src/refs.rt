@@ -2,7 +2,8 @@ ghost use Rattle.std.specs.Prelude.{◌<◌};
 
 use crate::tables::Tables;
 
-// A data type, a constructor and a function: the number of its row, which is one of these tables.
+// A data type, a constructor and a function: its tables, and the number of its row in them. Three types, so that none is taken for another:
+// each is bounded by another table.
 #[derive(Clone, Copy)]
 pub struct DataRef<'a> {
     pub tables: Tables<'a>,

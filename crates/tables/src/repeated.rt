@@ -18,7 +18,7 @@ pub fn twice<R: Row>(text: &[u8], words: &[u64], rows: Span) -> Option<usize>
     for i in rows.first..rows.end {
         let rest = Span {
             first: i + 1,
-            end: rows.end,
+            ..rows
         };
         if let Some(k) = find::<R, Name>(text, words, rest, R::load(words, i).name()) {
             return Some(k);
@@ -38,6 +38,7 @@ pub fn once<R: Row, F: FnOnce(Name) -> Fault>(
     requires fault { F.IsAlwaysCallable fault }
     ensures { MatchResult result (λ _. no_twice (all_in (λ k. spelling text.now (R.title (R.kept words.now k))) rows) ≡ true) (λ _. no_twice (all_in (λ k. spelling text.now (R.title (R.kept words.now k))) rows) ≡ false) }
 {
+    // A match: no method makes an error of a value that is there.
     match twice::<R>(text, words, rows) {
         Some(k) => Err(fault(R::load(words, k).name())),
         None => Ok(()),

@@ -36,6 +36,7 @@ impl Sizing<'_> {
     fn check_datas(self) -> Result<(), Fault>
         ensures { MatchResult result (λ _. decls_in self.entry.tables self.entry.sizes.now ≡ true) (λ _. decls_in self.entry.tables self.entry.sizes.now ≡ false) }
     {
+        // A `for` with `?`, which says what try_for_each would.
         for number in 0..self.tables.done.datas {
             self.check_data(number)?;
         }

@@ -22,6 +22,7 @@ pub struct Parameter {
     pub at: usize,
 }
 
+// Two impls of Row with one body: a trait can't say that Self has a field.
 impl Row for Declared {
     ghost title = { λ r. r.name };
 

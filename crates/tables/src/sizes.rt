@@ -11,8 +11,8 @@ use crate::tables::Tables;
 // Puts the size of a data type into the table, if it isn't known and can be told from those that are. The words come beside the tables
 // here and below: each method of a struct of both would have to promise that its tables stay.
 fn settle(data: DataRef, sizes: &mut [u64]) -> bool
-    requires { data.tables.done.datas ≤ length sizes.old }
-    ensures { Settles data.entry.tables data.entry.number sizes.old sizes.new result }
+    requires { «data».tables.done.datas ≤ length sizes.old }
+    ensures { Settles «data».entry.tables «data».entry.number sizes.old sizes.new result }
 {
     let DataRef { tables, number } = data;
     if sizes[number] != 0 {
@@ -31,6 +31,7 @@ fn settle_each(tables: Tables, sizes: &mut [u64]) -> bool
     ensures { Advances tables.entry sizes.old sizes.new result }
 {
     let mut more = false;
+    // No `any`: each is settled, also behind one that was.
     for number in 0..tables.done.datas {
         more |= settle(DataRef { tables, number }, sizes);
     }
@@ -43,6 +44,7 @@ fn settle_all(tables: Tables, sizes: &mut [u64])
     requires sound { Sound tables sizes.old }
     ensures { Fixed (datas_in tables.entry) (sizes_in tables.entry sizes.new) }
 {
+    // Until a round puts nothing in: no iterator has that end.
     while settle_each(tables, sizes) {}
 }
 

@@ -1,6 +1,6 @@
 ghost use Rattle.std.specs.Prelude.{◌≡◌, ◌-◌};
 
-// Numbers of rows: from the first up to the end, which is no more in it.
+// Numbers of rows: from the first up to the end, which is no more in it. No Range, since that is not Copy.
 #[derive(Clone, Copy)]
 pub struct Span {
     pub first: usize,

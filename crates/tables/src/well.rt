@@ -21,6 +21,7 @@ impl Tables<'_> {
     fn inner_exists(self, ty: ValueType) -> bool
         ensures { owned (type_in self.entry ty) ≡ true → result ≡ well_made (datas_in self.entry) (type_in self.entry ty) }
     {
+        // A loop down the layers: no recursion, and nothing is counted.
         let mut t = ty;
         loop {
             match shape(self.code, t) {

@@ -12,6 +12,7 @@ fn written_shape(code: &[u64], slot: usize) -> Shape
     ensures layer { (text : List ℕ) → shape_of text code.now result ≡ written text code.now slot }
     ensures inner { Inner 0 result }
 {
+    // No `find_map`: what `rev` of a range yields, no lemma says.
     for k in (0..slot).rev() {
         if let Some(role) = role_at(code, k) {
             return role.shape(k);
@@ -34,12 +35,10 @@ pub fn shape(code: &[u64], ty: ValueType) -> Shape
         Outer::Ref => Shape::Ref(inner),
         Outer::Mut => Shape::Mut(inner),
         Outer::Plain => {
-            if ty.boxes > 0 {
-                let boxes = ty.boxes - 1;
-                Shape::Box(ValueType { boxes, ..inner })
-            } else {
-                base_shape(code, ty.base)
+            if let Some(boxes) = ty.boxes.checked_sub(1) {
+                return Shape::Box(ValueType { boxes, ..inner });
             }
+            base_shape(code, ty.base)
         }
     }
 }
@@ -60,6 +59,7 @@ fn base_shape(code: &[u64], base: Base) -> Shape
 pub fn is_owned(code: &[u64], ty: ValueType) -> bool
     ensures { (text : List ℕ) → result ≡ owned (type_of text code.now ty) }
 {
+    // A loop down the layers: no recursion, and nothing is counted.
     let mut t = ty;
     loop {
         match shape(code, t) {

@@ -15,6 +15,7 @@ impl From<u64> for Outer {
     ghost from_gives = { λ n o. o ≡ outer_in n };
 
     fn from(number: u64) -> Outer {
+        // By number, since it lies in lent words.
         match number {
             1 => Outer::Ref,
             2 => Outer::Mut,

@@ -6,7 +6,8 @@ use crate::layer::shape;
 use crate::ty::{Shape, ValueType};
 use lexer::same_name;
 
-// How two types compare by their outermost layers: the same, different, or as two types within them.
+// How two types compare by their outermost layers: the same, different, or as two types within them. Three ways to go on, which
+// no Option or Result has.
 #[derive(Clone, Copy)]
 pub enum Compared {
     Same,
@@ -47,6 +48,7 @@ fn compare(text: &[u8], x: Shape, y: Shape) -> Compared
 pub fn same_type(text: &[u8], code: &[u64], a: ValueType, b: ValueType) -> bool
     ensures { result ≡ same_ty (type_of text.now code.now a) (type_of text.now code.now b) }
 {
+    // A loop down the layers of both: no recursion, and nothing is counted.
     let mut x = a;
     let mut y = b;
     loop {
