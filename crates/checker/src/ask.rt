@@ -139,6 +139,8 @@ fn refused_if(lent: bool, rule: Rule) -> Result<(), Rule>
     if lent { Err(rule) } else { Ok(()) }
 }
 
+// Four from here on, since each has the clause that its callers' proofs name.
+
 // Refuses what is not readable: somebody has the name alone.
 pub fn readable(source: &Source<'_>, words: &Words<'_>, at: &State, name: Name) -> Result<(), Rule>
     requires { Room (lent source.now words.now) at.now }

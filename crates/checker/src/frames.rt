@@ -51,13 +51,14 @@ fn access_in(number: u64) -> Access
     Access::try_from(number).unwrap_or(Access::Edit)
 }
 
-// No entry has the tag 3.
+// By number, as frames lie in lent words: no entry has the tag 3.
 fn part_in(words: Tagged) -> Option<Entry>
     ensures { result ≡ part_in words.tag words.operand }
 {
     (words.tag != 3).then(|| Entry::from(words))
 }
 
+// By number as well.
 fn part_words(part: Option<Entry>) -> Tagged
     ensures tag { result.tag ≡ part_number part }
     ensures operand { result.operand ≡ part_operand part }
@@ -97,6 +98,7 @@ impl Frame {
         }
     }
 
+    // By number, the kind as well: frames lie in lent words.
     fn numbers(self) -> [u64; 10]
         ensures { result ≡ numbers self }
     {
@@ -144,7 +146,7 @@ impl Record for Frame {
 
     ghost kept = { frame_at };
 
-    // The frame with a number.
+    // The frame with a number. Its kind is by number: frames lie in lent words.
     fn load(words: &[u64], number: usize) -> Frame {
         let i = 10 * number;
         let a = words[i + 1] as usize;
