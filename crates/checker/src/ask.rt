@@ -132,8 +132,8 @@ pub fn type_at(words: &Words<'_>, place: Place) -> ValueType
     Variable::load(words.names, place.0).ty
 }
 
-// Refuses, by that rule, a name that somebody has a loan of.
-fn refused_if(lent: bool, rule: Rule) -> Result<(), Rule>
+// Refuses, by that rule, a name that somebody has a loan of, or that's in scope already.
+pub(crate) fn refused_if(lent: bool, rule: Rule) -> Result<(), Rule>
     ensures { Holds (not lent) result }
 {
     if lent { Err(rule) } else { Ok(()) }

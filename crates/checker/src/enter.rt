@@ -8,6 +8,7 @@ ghost use Rattle.checker.specs.Machine.{exec2, entered, fresh2};
 ghost use Rattle.checker.specs.Stands.{Decls, lent, lent_in, Stands, Room, Steps};
 ghost use Rattle.checker.specs.Outcome.{Holds};
 
+use crate::ask::refused_if;
 use crate::copy::copy_loans;
 use crate::state::{Rule, Source, State, Words};
 use crate::write::set_gone;
@@ -22,10 +23,8 @@ pub fn fresh(source: &Source<'_>, words: &Words<'_>, at: &State, name: Name) -> 
     requires { Room (lent source.now words.now) at.now }
     ensures { (d : Decls) (s : State2) → Stands d (lent source.now words.now) at.now s → Holds (fresh2 (Scope s) (spelling source.now.text.now name)) result }
 {
-    if seek(source.text, words.names, at.names, name).is_some() {
-        return Err(Rule::NotNew);
-    }
-    Ok(())
+    let found = seek(source.text, words.names, at.names, name);
+    refused_if(found.is_some(), Rule::NotNew)
 }
 
 // A name more, which takes the value and its entries. `of_caller`: whether all its loans are of what the caller lent.
