@@ -3,7 +3,6 @@ ghost use Rattle.checker.specs.FrameWords.{frame_at, call_at, match_at, numbers,
 
 use code::{Access, Record};
 use scope::loans::Entry;
-use scope::log::bit;
 use scope::words::{Tagged, write};
 use types::Base;
 
@@ -107,7 +106,7 @@ impl Frame {
                 let makes = Tagged::from(c.makes);
                 [
                     0,
-                    bit(c.params),
+                    u64::from(c.params),
                     c.next as u64,
                     c.end as u64,
                     makes.tag,
