@@ -40,11 +40,8 @@ fn is_held(
                 }
                 top = top.min(call.base);
             }
-            Frame::Then(_, _) => return false,
-            Frame::Else(_) => return false,
-            Frame::Test(_, _) => return false,
-            Frame::Loop(_, _, _, _) => return false,
-            Frame::Match(_) => return false,
+            Frame::Then(_, _) | Frame::Else(_) | Frame::Test(_, _) => return false,
+            Frame::Loop(_, _, _, _) | Frame::Match(_) => return false,
         }
     }
     false

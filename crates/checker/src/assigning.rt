@@ -95,10 +95,7 @@ pub fn store(source: &Source<'_>, words: &Words<'_>, at: &mut State, name: Name)
     let place = there(source, words, at, name)?;
     let ty = type_at(words, place);
     match shape(source.code, ty) {
-        Shape::Int => Err(Rule::NotAReference),
-        Shape::Data(_) => Err(Rule::NotAReference),
-        Shape::Box(_) => Err(Rule::NotAReference),
-        Shape::Ref(_) => Err(Rule::NotAReference),
+        Shape::Int | Shape::Data(_) | Shape::Box(_) | Shape::Ref(_) => Err(Rule::NotAReference),
         Shape::Mut(inner) => store_in(source, words, at, name, inner),
     }
 }

@@ -135,8 +135,7 @@ pub fn use_name(
     let ty = type_at(words, place);
     match shape(source.code, ty) {
         Shape::Int => copied(source, words, at, name),
-        Shape::Data(_) => moved_out(source, words, at, name, place, ty),
-        Shape::Box(_) => moved_out(source, words, at, name, place, ty),
+        Shape::Data(_) | Shape::Box(_) => moved_out(source, words, at, name, place, ty),
         Shape::Ref(_) => shared_again(source, words, at, name, place, ty),
         Shape::Mut(_) => lent_on(source, words, at, name, ty),
     }
@@ -218,9 +217,7 @@ fn is_loadable(code: &[u64], ty: ValueType) -> bool
     ensures { (text : List ℕ) → result ≡ loadable (type_of text code.now ty) }
 {
     match shape(code, ty) {
-        Shape::Int => false,
-        Shape::Data(_) => false,
-        Shape::Box(_) => false,
+        Shape::Int | Shape::Data(_) | Shape::Box(_) => false,
         Shape::Ref(inner) => is_int(code, inner),
         Shape::Mut(inner) => is_int(code, inner),
     }
