@@ -170,6 +170,7 @@ pub fn share(
     let place = there(source, words, at, name)?;
     let ty = type_at(words, place);
     match shape(source.code, ty) {
+        // Three arms: as one pattern the proof didn't close, since the rule goes by each shape.
         Shape::Int => share_of(source, words, at, name, ty),
         Shape::Data(_) => share_of(source, words, at, name, ty),
         Shape::Box(_) => share_of(source, words, at, name, ty),
