@@ -22,7 +22,8 @@ fn token<T: Asked>(c: &mut Cursor, asked: T) -> Result<Action, Expected>
     Ok(Action::Push0)
 }
 
-// One step: what stands in the place of the symbol that was on top.
+// One step: what stands in the place of the symbol that was on top. One match with every arm: a symbol lies in lent words, and no
+// step calls another.
 pub fn step(c: &mut Cursor, symbol: Symbol) -> Result<Action, Expected>
     ensures { Does c.old c.new result (step_of (symbol_of (text_of c.old) symbol)) }
 {
