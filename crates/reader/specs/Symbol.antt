@@ -1,6 +1,7 @@
 -- The reader as a machine with a stack of symbols: its symbols and its steps. A token is a piece of
 -- the text as `cut_up` gives it.
-use Rattle.std.specs.Prelude.{Bool, ◌||◌, List, [], ◌∷◌}
+use Rattle.std.specs.Prelude.{ℕ, Bool, ◌||◌, List, [], ◌∷◌}
+use Rattle.std.proofs.Math.Option.{Option}
 use Rattle.language.specs.Base.{choose, from_option, Lexeme, same}
 use Rattle.language.specs.Text.{peek, skip_one, sign_on, a_way, is_lower, is_upper, is_number, value_of, sg_lp}
 use Rattle.language.specs.Text.{sg_rp, sg_lc, sg_rc, sg_comma, sg_semi, sg_colon, sg_bar, sg_gets, sg_star}
@@ -65,6 +66,12 @@ with_name ok (w ∷ left) fun = choose (ok w) (fun w left) fail
 abbrev pub with_token : Token → List Token → (List Token → Action) → Action
 with_token w [] fun = fail
 with_token w (t ∷ left) fun = choose (same w t) (fun left) fail
+
+-- behind a part of a sum or a product: an operator and another part, and what may stand behind that; or none
+abbrev pub step_more : (Lexeme → Option ℕ) → Symbol → Symbol → List Token → Action
+step_more op part again ts =
+    from_option (op (peek ts)) (push [] ts)
+    (λ k. push (s_emit i_int ∷ part ∷ s_emit (i_op k) ∷ again ∷ []) (skip_one ts))
 
 -- behind &
 abbrev pub step_loan : List Token → Action
@@ -208,12 +215,8 @@ step s_compared ts =
 step s_sum ts = push (s_product ∷ s_more_sum ∷ []) ts
 step s_product ts = push (s_factor ∷ s_more_product ∷ []) ts
 step s_factor ts = push (s_primary ∷ []) ts
-step s_more_sum ts =
-    from_option (sign_on 2 (peek ts)) (push [] ts)
-    (λ k. push (s_emit i_int ∷ s_product ∷ s_emit (i_op k) ∷ s_more_sum ∷ []) (skip_one ts))
-step s_more_product ts =
-    from_option (sign_on 3 (peek ts)) (push [] ts)
-    (λ k. push (s_emit i_int ∷ s_factor ∷ s_emit (i_op k) ∷ s_more_product ∷ []) (skip_one ts))
+step s_more_sum ts = step_more (sign_on 2) s_product s_more_sum ts
+step s_more_product ts = step_more (sign_on 3) s_factor s_more_product ts
 step s_primary ts = step_primary ts
 step s_args ts = push (s_expr ∷ s_emit i_arg ∷ s_args_on ∷ []) ts
 step s_args_on ts =

@@ -61,6 +61,7 @@ impl Asked for Keyword {
     }
 }
 
+// Twice: what would be handed in is the case of Token, which is no value.
 pub fn lower(token: Option<Token>) -> Option<Name>
     ensures { result ≡ lower_ahead token }
 {
@@ -71,6 +72,7 @@ pub fn lower(token: Option<Token>) -> Option<Name>
     }
 }
 
+// Twice: see lower.
 pub fn upper(token: Option<Token>) -> Option<Name>
     ensures { result ≡ upper_ahead token }
 {

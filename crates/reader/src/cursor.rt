@@ -64,6 +64,7 @@ impl<'a> Cursor<'a> {
         asked.is_ahead(self.token())
     }
 
+    // Twice: what would be handed in is the case of Token, which is no value.
     #[tactic(auto, using(lexer::proofs::Asks::asks_lower))]
     fn lower_ahead(&self) -> Option<Name>
         ensures { Told (text_of self.now) is_lower result (peek (tokens self.now)) }
@@ -71,6 +72,7 @@ impl<'a> Cursor<'a> {
         ahead::lower(self.token())
     }
 
+    // Twice: see lower_ahead.
     #[tactic(auto, using(lexer::proofs::Asks::asks_upper))]
     fn upper_ahead(&self) -> Option<Name>
         ensures { Told (text_of self.now) is_upper result (peek (tokens self.now)) }
@@ -106,10 +108,14 @@ impl<'a> Cursor<'a> {
                 Ok(Some(n))
             }
             Some(Token::BadNumber) => Err(Expected::SmallNumber),
-            Some(Token::Reserved(_) | Token::Mark(_) | Token::Lower(_) | Token::Upper(_)) => Ok(
-                None,
-            ),
-            Some(Token::Other) | None => Ok(None),
+            Some(
+                Token::Reserved(_)
+                | Token::Mark(_)
+                | Token::Lower(_)
+                | Token::Upper(_)
+                | Token::Other,
+            )
+            | None => Ok(None),
         }
     }
 

@@ -1,7 +1,7 @@
 ghost use Rattle.std.specs.Prelude.{◌≡◌};
-ghost use Rattle.reader.specs.Symbol.{step, s_compared, s_more_sum, s_more_product, s_primary, s_args_on};
-ghost use Rattle.reader.specs.Symbol.{step_loan, step_atom, step_make, step_use, step_prefixed};
-ghost use Rattle.reader.specs.Steps.{Joined};
+ghost use Rattle.reader.specs.Symbol.{step, s_compared, s_primary, s_args_on};
+ghost use Rattle.reader.specs.Symbol.{step_more, step_loan, step_atom, step_make, step_use, step_prefixed};
+ghost use Rattle.reader.specs.Steps.{Joined, operator_of, symbol_of};
 ghost use Rattle.reader.specs.Tokens.{text_of, Reads, Does};
 ghost use Rattle.lexer.specs.Spelling.{spelling};
 
@@ -30,9 +30,9 @@ const COMPARISONS: [(Sign, Operator); 2] = [
     (Sign::Less, Operator::Less),
 ];
 
-const SUMS: [(Sign, Operator); 2] = [(Sign::Plus, Operator::Add), (Sign::Minus, Operator::Sub)];
+pub const SUMS: [(Sign, Operator); 2] = [(Sign::Plus, Operator::Add), (Sign::Minus, Operator::Sub)];
 
-const PRODUCTS: [(Sign, Operator); 3] = [
+pub const PRODUCTS: [(Sign, Operator); 3] = [
     (Sign::Star, Operator::Mul),
     (Sign::Slash, Operator::Div),
     (Sign::Percent, Operator::Rem),
@@ -52,31 +52,21 @@ pub fn compared(c: &mut Cursor) -> Result<Action, Expected>
     }
 }
 
-// Behind a product in a sum: another one, or none.
-pub fn more_sum(c: &mut Cursor) -> Result<Action, Expected>
-    ensures { Does c.old c.new result (step s_more_sum) }
+// Behind a part of a sum or a product: another one with one of these signs before it, or none.
+pub fn more(
+    c: &mut Cursor,
+    signs: &[(Sign, Operator)],
+    part: Symbol,
+    again: Symbol,
+) -> Result<Action, Expected>
+    ensures { Does c.old c.new result (step_more (operator_of signs.now) (symbol_of (text_of c.old) part) (symbol_of (text_of c.old) again)) }
 {
-    match operator(c, &SUMS) {
+    match operator(c, signs) {
         Some(o) => Ok(Action::Push4([
             Symbol::Emit(Instr::Int),
-            Symbol::Product,
+            part,
             Symbol::Emit(Instr::Op(o)),
-            Symbol::MoreSum,
-        ])),
-        None => Ok(Action::Push0),
-    }
-}
-
-// Behind a factor of a product: another one, or none.
-pub fn more_product(c: &mut Cursor) -> Result<Action, Expected>
-    ensures { Does c.old c.new result (step s_more_product) }
-{
-    match operator(c, &PRODUCTS) {
-        Some(o) => Ok(Action::Push4([
-            Symbol::Emit(Instr::Int),
-            Symbol::Factor,
-            Symbol::Emit(Instr::Op(o)),
-            Symbol::MoreProduct,
+            again,
         ])),
         None => Ok(Action::Push0),
     }

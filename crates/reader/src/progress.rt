@@ -49,6 +49,7 @@ impl Progress {
         requires { HasRoom words.old self.old (length symbols.now) }
         ensures { Performed symbols.now [] words.old self.old words.new self.new }
     {
+        // By number: over symbols.iter().rev() the invariant has to say what was yielded so far, in three answers for this one line.
         for i in (0..symbols.len()).rev() {
             self.push(words, symbols[i]);
         }

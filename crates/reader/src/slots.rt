@@ -8,6 +8,7 @@ use lexer::Name;
 // The number of a symbol on the stack; those below it are opcodes.
 const DATA_END: u64 = 64;
 
+// By number, both ways: symbols lie in lent words, and no cast gives an enum with fields its number.
 fn plain_symbol(op: u64) -> Symbol
     ensures { result ≡ plain_symbol op }
 {
@@ -67,6 +68,7 @@ impl From<Slot> for Symbol {
 impl From<Symbol> for Slot {
     ghost from_gives = { λ symbol slot. slot ≡ slot_for symbol };
 
+    // By number: see plain_symbol.
     fn from(symbol: Symbol) -> Slot {
         match symbol {
             Symbol::Emit(i) => Slot::from(i),

@@ -22,7 +22,8 @@ fn token<T: Asked>(c: &mut Cursor, asked: T) -> Result<Action, Expected>
     Ok(Action::Push0)
 }
 
-// One step: what stands in the place of the symbol that was on top.
+// One step: what stands in the place of the symbol that was on top. One match with every arm: a symbol lies in lent words, and no
+// step calls another.
 pub fn step(c: &mut Cursor, symbol: Symbol) -> Result<Action, Expected>
     ensures { Does c.old c.new result (step_of (symbol_of (text_of c.old) symbol)) }
 {
@@ -39,8 +40,8 @@ pub fn step(c: &mut Cursor, symbol: Symbol) -> Result<Action, Expected>
         Symbol::Sum => Ok(Action::Push2([Symbol::Product, Symbol::MoreSum])),
         Symbol::Product => Ok(Action::Push2([Symbol::Factor, Symbol::MoreProduct])),
         Symbol::Factor => Ok(Action::Push1([Symbol::Primary])),
-        Symbol::MoreSum => expr::more_sum(c),
-        Symbol::MoreProduct => expr::more_product(c),
+        Symbol::MoreSum => expr::more(c, &expr::SUMS, Symbol::Product, Symbol::MoreSum),
+        Symbol::MoreProduct => expr::more(c, &expr::PRODUCTS, Symbol::Factor, Symbol::MoreProduct),
         Symbol::Primary => expr::primary(c),
         Symbol::Args => Ok(Action::Push3([Symbol::Expr, Symbol::Emit(Instr::Arg), Symbol::ArgsOn])),
         Symbol::ArgsOn => expr::args_on(c),
