@@ -6,7 +6,7 @@ use model_text::tree::Name;
 use std::alloc::Global;
 use std::mem;
 
-// So many levels a value may have: a value is let go level by level, on the host's stack.
+// So many levels a value may have, as `levels` counts them: fields within fields are let go on the host's stack.
 pub const MOST_LEVELS: usize = 20_000;
 
 // A root: where it lies, and which of those that lay there it is. No two have one serial number.
@@ -51,7 +51,7 @@ pub enum Value {
     Hole,
 }
 
-// The levels of fields that lie one below the other, the first one on top.
+// The levels below a value. A field counts those before it as well, as where fields were a list: what is too deep is no other.
 fn levels_of(fields: &[Value]) -> usize {
     fields
         .iter()

@@ -91,7 +91,7 @@ impl<'t> Cursor<'t> {
         Ok(name)
     }
 
-    // A name of a constructor.
+    // A name of a constructor. Written twice, since the case of Token can't be handed in.
     pub fn upper(&mut self) -> Result<Name, Fault> {
         let Token::Upper(name) = self.next()? else {
             return Err(Fault::NoText);
@@ -121,6 +121,7 @@ impl<'t> Cursor<'t> {
         requires { F.IsAlwaysCallable read }
     {
         let mut found = Vec::new(self.heap);
+        // Counted: it ends by the text, as lib.rt says.
         for _ in 0..u64::MAX {
             found.push(read(self)?)?;
             if !self.accept(Token::Mark(sign)) {

@@ -29,6 +29,7 @@ fn prefix(cursor: &mut Cursor) -> Option<Prefix> {
 
 fn a_type(cursor: &mut Cursor) -> Result<Type, Fault> {
     let mut prefixes = Vec::new(cursor.heap);
+    // Counted: it ends by the text, as lib.rt says.
     for _ in 0..u64::MAX {
         let Some(prefix) = prefix(cursor) else {
             break;
@@ -107,6 +108,7 @@ pub fn read(heap: Global, text: &[u8]) -> Result<Program, Fault> {
     let mut cursor = Cursor::new(heap, text);
     let mut datas = Vec::new(heap);
     let mut functions = Vec::new(heap);
+    // Counted: it ends by the text, as lib.rt says.
     for _ in 0..u64::MAX {
         if cursor.peek().is_none() {
             break;

@@ -88,6 +88,7 @@ fn statement(cursor: &mut Cursor, depth: usize) -> Result<Stmt, Fault> {
 #[cycle(nested_statements)]
 fn statements(cursor: &mut Cursor, depth: usize) -> Result<Span, Fault> {
     let mut items = Vec::new(cursor.heap);
+    // Counted: it ends by the text, as lib.rt says.
     for _ in 0..u64::MAX {
         if cursor.is_at(Token::Mark(Sign::RightBrace))
             || cursor.is_at(Token::Reserved(Keyword::Give))

@@ -56,6 +56,7 @@ pub fn ways<T: Drop, F: FnMut(&mut Cursor, Name, Span) -> Result<T, Fault>>(
     requires { F.IsAlwaysCallable read }
 {
     let mut found = Vec::new(cursor.heap);
+    // Counted: it ends by the text, as lib.rt says.
     for _ in 0..u64::MAX {
         if cursor.accept(Token::Mark(Sign::RightBrace)) {
             break;
