@@ -1,7 +1,7 @@
 // The tokens that are still to be read, and what was made of those before them.
 use crate::fault::Fault;
 use crate::tree::{Expr, ExprId, Name, Nodes};
-use lexer::{Lexer, Sign, Token, name_bytes};
+use lexer::{Keyword, Lexer, Sign, Token, name_bytes};
 use std::alloc::Global;
 use std::collections::BTreeMap;
 
@@ -73,6 +73,16 @@ impl<'t> Cursor<'t> {
             self.skip();
         }
         there
+    }
+
+    // What stands for the first of these words that is next, if one of them is; goes past it.
+    pub fn one_of<T: Copy>(&mut self, words: &[(Keyword, T)]) -> Option<T> {
+        let (_, meant) = words
+            .iter()
+            .find(|(word, _)| self.is_at(Token::Reserved(*word)))
+            .copied()?;
+        self.skip();
+        Some(meant)
     }
 
     pub fn expect(&mut self, token: Token) -> Result<(), Fault> {
