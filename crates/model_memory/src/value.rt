@@ -107,3 +107,36 @@ impl Value {
         }
     }
 }
+
+#[cfg(test)]
+mod tests {
+    use super::*;
+    use std::test::Fail;
+
+    #[test]
+    fn clones_what_points(rt: HostRuntime) -> Result<(), Fail> {
+        let heap = rt.alloc();
+        let root = RootId { slot: 3, serial: 5 };
+        let mut down = Vec::new(heap);
+        down.push(7)?;
+        let place = Place { root, path: down };
+        let mut fields = Vec::new(heap);
+        fields.push(Value::Number(1))?;
+        fields.push(Value::Reference(place))?;
+        let twin = Value::Data(Name(2), 2, fields).clone()?;
+        let found = match twin.field(1) {
+            Some(Value::Reference(place)) => {
+                Some((
+                    place.root.slot,
+                    place.root.serial,
+                    place.path.first().copied(),
+                ))
+            }
+            Some(Value::Number(_) | Value::Data(_, _, _) | Value::Box(_) | Value::Hole) | None =>
+                None,
+        };
+        assert_eq!(rt; twin.levels(), 3);
+        assert_eq!(rt; found, Some((3, 5, Some(7))));
+        Ok(())
+    }
+}
