@@ -31,7 +31,7 @@ impl Way for Arm {
 }
 
 // The first of the ways that is for the constructor.
-fn find_way<T: Way + Copy>(all: &Vec<T>, ways: Span, ctor: Name) -> Result<T, Stop> {
+fn find_way<T: Way + Copy>(all: &[T], ways: Span, ctor: Name) -> Result<T, Stop> {
     nodes_of(all, ways)?
         .iter()
         .find(|way| way.ctor() == ctor)
@@ -128,6 +128,7 @@ impl<'p> Machine<'p> {
         self.run_block(if number == 0 { no } else { yes }, names)
     }
 
+    // Written twice: what runs behind the test is a block there and a body here.
     pub fn choose_body(&mut self, yes: BodyId, no: BodyId) -> Result<(), Stop> {
         let number = self.work.pop_number()?;
         let names = self.scope.len();
@@ -204,6 +205,7 @@ impl<'p> Machine<'p> {
         self.run_block(alt.block, before)
     }
 
+    // Written twice: what runs behind the names is a block there and a body here.
     fn match_body(&mut self, way: Access, name: Name, arms: Span) -> Result<(), Stop> {
         let found = self.matched(name)?;
         let arm = find_way(&self.program.nodes.arms, arms, found.ctor)?;

@@ -1,5 +1,5 @@
 // Numbers to read, from a text of them.
-use std::alloc::{AllocError, Global};
+use std::alloc::{AllocError, AllocFailed, Global};
 
 #[derive(Clone, Copy)]
 pub enum InputFault {
@@ -7,20 +7,25 @@ pub enum InputFault {
     Memory,
 }
 
+// By hand: no derive writes the second one, which is for each type of what was not stored.
 impl From<AllocError> for InputFault {
     fn from(_: AllocError) -> Self {
         InputFault::Memory
     }
 }
 
+impl<T: Drop> From<AllocFailed<T>> for InputFault {
+    fn from(_: AllocFailed<T>) -> Self {
+        InputFault::Memory
+    }
+}
+
 // A number in decimal, modulo 2^64.
 fn number(word: &str) -> Result<u64, InputFault> {
-    let mut value = 0u64;
-    for each in word.chars() {
+    word.chars().try_fold(0u64, |value, each| {
         let digit = each.to_digit(10).ok_or(InputFault::NotANumber)?;
-        value = value.wrapping_mul(10).wrapping_add(u64::from(digit));
-    }
-    Ok(value)
+        Ok(value.wrapping_mul(10).wrapping_add(u64::from(digit)))
+    })
 }
 
 // The numbers of a text, with blanks or lines between them.

@@ -34,12 +34,12 @@ pub fn function_named(program: &Program, name: Name) -> Result<&Function, Stop> 
 }
 
 // The nodes of a span.
-pub fn nodes_of<T>(all: &Vec<T>, span: Span) -> Result<&[T], Stop> {
+pub fn nodes_of<T>(all: &[T], span: Span) -> Result<&[T], Stop> {
     all.get(span.start..span.end).ok_or(Stop::Wrong)
 }
 
 // The first node of a span, and the span behind it; nothing where the span is empty.
-pub fn first_of<T: Copy>(all: &Vec<T>, span: Span) -> Result<Option<(T, Span)>, Stop> {
+pub fn first_of<T: Copy>(all: &[T], span: Span) -> Result<Option<(T, Span)>, Stop> {
     if span.start >= span.end {
         return Ok(None);
     }
@@ -98,7 +98,8 @@ impl<'p> Machine<'p> {
         }
     }
 
-    // The place that a name's value, a reference, points to.
+    // The place that a name's value, a reference, points to. Apart from place_of in what a name with a value of its own is: nothing here, its
+    // place there.
     pub fn target(&self, name: Name) -> Result<Place, Stop> {
         let root = self.scope.root_of(name)?;
         match self.memory.whole(root)? {

@@ -7,6 +7,7 @@ use interpreter::input::numbers;
 use interpreter::run::{Limits, Outcome, run_text};
 use std::env::Args;
 use std::io::Write;
+use std::iter::Skip;
 use std::process::ExitCode;
 use std::{env, fs, io};
 
@@ -35,7 +36,7 @@ fn set(limits: &mut Limits, flag: &str, value: &str) -> anyhow::Result<()> {
     Ok(())
 }
 
-fn requested(mut args: Args) -> anyhow::Result<Request> {
+fn requested(mut args: Skip<Args>) -> anyhow::Result<Request> {
     let mut found = Request {
         file: None,
         limits: Limits::large(),
@@ -63,9 +64,7 @@ fn show(rt: &HostRuntime, outcome: &Outcome) -> anyhow::Result<()> {
 
 fn run(rt: &HostRuntime) -> anyhow::Result<Outcome> {
     let heap = rt.alloc();
-    let mut args = env::args(rt)?;
-    let _ = args.next();
-    let Request { file, limits } = requested(args)?;
+    let Request { file, limits } = requested(env::args(rt)?.skip(1))?;
     let file = file.context(USAGE)?;
     let text = fs::read(rt, file.as_str())?;
     let input = io::read_to_string(heap, rt.stdin())?;

@@ -75,6 +75,7 @@ impl Memory {
 
     // Puts a value at a path from a root, and gives what was there.
     pub fn replace(&mut self, root: RootId, path: &[usize], new: Value) -> Result<Value, Stop> {
+        // The same test as in held, for a slot that is changed.
         match self.slots.get_mut(root.slot) {
             Some(Some(held)) if held.serial == root.serial => {
                 let old = held.value.replace(path, new)?;

@@ -59,9 +59,10 @@ impl Meter {
         ensures limits { (self.new.stack ≡ self.old.stack) × (self.new.max_turns ≡ self.old.max_turns) }
     {
         let before = self.under;
-        if before > self.stack || words > self.stack - before {
-            return Err(Stop::NoStack);
-        }
+        self.stack
+            .checked_sub(before)
+            .and_then(|left| left.checked_sub(words))
+            .ok_or(Stop::NoStack)?;
         self.under = before + words;
         self.most_under = self.most_under.max(self.under);
         Ok(before)

@@ -15,7 +15,7 @@ pub struct Sizes {
 }
 
 // The first data type that has the constructor.
-pub fn home_of(datas: &Vec<Data>, ctor: Name) -> Option<&Data> {
+pub fn home_of(datas: &[Data], ctor: Name) -> Option<&Data> {
     datas
         .iter()
         .find(|one| one.ctors.iter().any(|each| each.name == ctor))
@@ -48,7 +48,7 @@ fn data_size(known: &Known, one: &Data) -> Option<u64> {
 }
 
 // One round: what is known of each data type once all those before are known. The last one comes first: what comes later stays.
-fn round(heap: Global, datas: &Vec<Data>, known: &Known) -> Result<Known, AllocError> {
+fn round(heap: Global, datas: &[Data], known: &Known) -> Result<Known, AllocError> {
     datas
         .iter()
         .rev()
@@ -56,7 +56,7 @@ fn round(heap: Global, datas: &Vec<Data>, known: &Known) -> Result<Known, AllocE
         .collect(heap)
 }
 
-fn data_sizes(heap: Global, datas: &Vec<Data>) -> Result<Known, AllocError> {
+fn data_sizes(heap: Global, datas: &[Data]) -> Result<Known, AllocError> {
     let mut known = BTreeMap::new(heap);
     for _ in datas {
         known = round(heap, datas, &known)?;

@@ -35,6 +35,7 @@ impl fmt::Display for Stop {
     }
 }
 
+// By hand: no derive writes the second one, which is for each type of what was not stored.
 impl From<AllocError> for Stop {
     fn from(_: AllocError) -> Self {
         Stop::Memory

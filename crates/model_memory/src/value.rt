@@ -6,7 +6,7 @@ use model_text::tree::Name;
 use std::alloc::Global;
 use std::mem;
 
-// So many levels a value may have: a value is let go level by level, on the host's stack.
+// So many levels a value may have, as `levels` counts them: fields within fields are let go on the host's stack.
 pub const MOST_LEVELS: usize = 20_000;
 
 // A root: where it lies, and which of those that lay there it is. No two have one serial number.
@@ -51,7 +51,7 @@ pub enum Value {
     Hole,
 }
 
-// The levels of fields that lie one below the other, the first one on top.
+// The levels below a value. A field counts those before it as well, as where fields were a list: what is too deep is no other.
 fn levels_of(fields: &[Value]) -> usize {
     fields
         .iter()
@@ -105,5 +105,38 @@ impl Value {
                 Stop::Wrong,
             ),
         }
+    }
+}
+
+#[cfg(test)]
+mod tests {
+    use super::*;
+    use std::test::Fail;
+
+    #[test]
+    fn clones_what_points(rt: HostRuntime) -> Result<(), Fail> {
+        let heap = rt.alloc();
+        let root = RootId { slot: 3, serial: 5 };
+        let mut down = Vec::new(heap);
+        down.push(7)?;
+        let place = Place { root, path: down };
+        let mut fields = Vec::new(heap);
+        fields.push(Value::Number(1))?;
+        fields.push(Value::Reference(place))?;
+        let twin = Value::Data(Name(2), 2, fields).clone()?;
+        let found = match twin.field(1) {
+            Some(Value::Reference(place)) => {
+                Some((
+                    place.root.slot,
+                    place.root.serial,
+                    place.path.first().copied(),
+                ))
+            }
+            Some(Value::Number(_) | Value::Data(_, _, _) | Value::Box(_) | Value::Hole) | None =>
+                None,
+        };
+        assert_eq!(rt; twin.levels(), 3);
+        assert_eq!(rt; found, Some((3, 5, Some(7))));
+        Ok(())
     }
 }

@@ -1,7 +1,7 @@
 // The tokens that are still to be read, and what was made of those before them.
 use crate::fault::Fault;
 use crate::tree::{Expr, ExprId, Name, Nodes};
-use lexer::{Lexer, Sign, Token, name_bytes};
+use lexer::{Keyword, Lexer, Sign, Token, name_bytes};
 use std::alloc::Global;
 use std::collections::BTreeMap;
 
@@ -75,6 +75,16 @@ impl<'t> Cursor<'t> {
         there
     }
 
+    // What stands for the first of these words that is next, if one of them is; goes past it.
+    pub fn one_of<T: Copy>(&mut self, words: &[(Keyword, T)]) -> Option<T> {
+        let (_, meant) = words
+            .iter()
+            .find(|(word, _)| self.is_at(Token::Reserved(*word)))
+            .copied()?;
+        self.skip();
+        Some(meant)
+    }
+
     pub fn expect(&mut self, token: Token) -> Result<(), Fault> {
         if self.accept(token) {
             Ok(())
@@ -91,7 +101,7 @@ impl<'t> Cursor<'t> {
         Ok(name)
     }
 
-    // A name of a constructor.
+    // A name of a constructor. Written twice, since the case of Token can't be handed in.
     pub fn upper(&mut self) -> Result<Name, Fault> {
         let Token::Upper(name) = self.next()? else {
             return Err(Fault::NoText);
@@ -121,6 +131,7 @@ impl<'t> Cursor<'t> {
         requires { F.IsAlwaysCallable read }
     {
         let mut found = Vec::new(self.heap);
+        // Counted: it ends by the text, as lib.rt says.
         for _ in 0..u64::MAX {
             found.push(read(self)?)?;
             if !self.accept(Token::Mark(sign)) {

@@ -9,28 +9,18 @@ use std::alloc::Global;
 // So many levels of braces may be open at a time.
 const MOST_BRACES: usize = 5_000;
 
-// Goes past the word for a prefix, if one is next.
-fn prefix(cursor: &mut Cursor) -> Option<Prefix> {
-    let prefix = match cursor.peek()? {
-        Token::Reserved(Keyword::Box) => Prefix::Box,
-        Token::Reserved(Keyword::Ref) => Prefix::Ref,
-        Token::Reserved(Keyword::Mut) => Prefix::Mut,
-        Token::Reserved(_)
-        | Token::Mark(_)
-        | Token::Lower(_)
-        | Token::Upper(_)
-        | Token::Number(_)
-        | Token::BadNumber
-        | Token::Other => return None,
-    };
-    cursor.skip();
-    Some(prefix)
-}
+// The words for prefixes.
+const PREFIXES: [(Keyword, Prefix); 3] = [
+    (Keyword::Box, Prefix::Box),
+    (Keyword::Ref, Prefix::Ref),
+    (Keyword::Mut, Prefix::Mut),
+];
 
 fn a_type(cursor: &mut Cursor) -> Result<Type, Fault> {
     let mut prefixes = Vec::new(cursor.heap);
+    // Counted: it ends by the text, as lib.rt says.
     for _ in 0..u64::MAX {
-        let Some(prefix) = prefix(cursor) else {
+        let Some(prefix) = cursor.one_of(&PREFIXES) else {
             break;
         };
         prefixes.push(prefix)?;
@@ -107,6 +97,7 @@ pub fn read(heap: Global, text: &[u8]) -> Result<Program, Fault> {
     let mut cursor = Cursor::new(heap, text);
     let mut datas = Vec::new(heap);
     let mut functions = Vec::new(heap);
+    // Counted: it ends by the text, as lib.rt says.
     for _ in 0..u64::MAX {
         if cursor.peek().is_none() {
             break;

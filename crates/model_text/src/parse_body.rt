@@ -3,7 +3,7 @@
 use crate::cursor::Cursor;
 use crate::fault::Fault;
 use crate::parse_expr::expression;
-use crate::parse_ways::{access, branches, ways};
+use crate::parse_ways::{ACCESSES, branches, ways};
 use crate::tree::{Access, Alt, Arm, Body, BodyId, Name, Span, Stmt, Tail, append};
 use lexer::{Keyword, Sign, Token};
 
@@ -62,7 +62,7 @@ fn matching(cursor: &mut Cursor, depth: usize, way: Access) -> Result<Stmt, Faul
 
 #[cycle(nested_statements)]
 fn statement(cursor: &mut Cursor, depth: usize) -> Result<Stmt, Fault> {
-    if let Some(way) = access(cursor) {
+    if let Some(way) = cursor.one_of(&ACCESSES) {
         return matching(cursor, depth, way);
     }
     match cursor.next()? {
@@ -88,6 +88,7 @@ fn statement(cursor: &mut Cursor, depth: usize) -> Result<Stmt, Fault> {
 #[cycle(nested_statements)]
 fn statements(cursor: &mut Cursor, depth: usize) -> Result<Span, Fault> {
     let mut items = Vec::new(cursor.heap);
+    // Counted: it ends by the text, as lib.rt says.
     for _ in 0..u64::MAX {
         if cursor.is_at(Token::Mark(Sign::RightBrace))
             || cursor.is_at(Token::Reserved(Keyword::Give))
@@ -134,7 +135,7 @@ fn tail(cursor: &mut Cursor, depth: usize) -> Result<Tail, Fault> {
     if cursor.accept(Token::Reserved(Keyword::If)) {
         return giving_if(cursor, depth);
     }
-    if let Some(way) = access(cursor) {
+    if let Some(way) = cursor.one_of(&ACCESSES) {
         return giving_match(cursor, depth, way);
     }
     Ok(Tail::Give(expression(cursor)?))

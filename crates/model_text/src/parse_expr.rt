@@ -161,6 +161,7 @@ impl<'c, 't> Reading<'c, 't> {
     // Goes on behind an operand: the whole expression, or none where a further operand is to come.
     fn behind(&mut self, first: ExprId) -> Result<Option<ExprId>, Fault> {
         let mut whole = first;
+        // Counted: it ends by the text, as lib.rt says.
         for _ in 0..u64::MAX {
             let Some(value) = self.as_left(whole)? else {
                 return Ok(None);
@@ -183,6 +184,7 @@ pub fn expression(cursor: &mut Cursor) -> Result<ExprId, Fault> {
         pending: Vec::new(cursor.heap),
         cursor,
     };
+    // Counted: it ends by the text, as lib.rt says.
     for _ in 0..u64::MAX {
         if let Some(first) = reading.operand()? {
             if let Some(whole) = reading.behind(first)? {

@@ -5,23 +5,12 @@ use crate::parse_expr::expression;
 use crate::tree::{Access, ExprId, Name, Span, append};
 use lexer::{Keyword, Sign, Token};
 
-// Goes past the word for an access, if one is next.
-pub fn access(cursor: &mut Cursor) -> Option<Access> {
-    let way = match cursor.peek()? {
-        Token::Reserved(Keyword::Take) => Access::Take,
-        Token::Reserved(Keyword::View) => Access::View,
-        Token::Reserved(Keyword::Edit) => Access::Edit,
-        Token::Reserved(_)
-        | Token::Mark(_)
-        | Token::Lower(_)
-        | Token::Upper(_)
-        | Token::Number(_)
-        | Token::BadNumber
-        | Token::Other => return None,
-    };
-    cursor.skip();
-    Some(way)
-}
+// The words for accesses.
+pub const ACCESSES: [(Keyword, Access); 3] = [
+    (Keyword::Take, Access::Take),
+    (Keyword::View, Access::View),
+    (Keyword::Edit, Access::Edit),
+];
 
 // (x, y, ..), or nothing.
 fn names(cursor: &mut Cursor) -> Result<Span, Fault> {
@@ -56,6 +45,7 @@ pub fn ways<T: Drop, F: FnMut(&mut Cursor, Name, Span) -> Result<T, Fault>>(
     requires { F.IsAlwaysCallable read }
 {
     let mut found = Vec::new(cursor.heap);
+    // Counted: it ends by the text, as lib.rt says.
     for _ in 0..u64::MAX {
         if cursor.accept(Token::Mark(Sign::RightBrace)) {
             break;

@@ -2,4 +2,4 @@ use Rattle.std.specs.Vec.Iter.{into_iter_len}
 use Rattle.model.proofs.requested.Given as goal
 
 abbrev pub decreases-loop-arg : goal.decreases-loop-arg
-decreases-loop-arg l = into_iter_len l.args
+decreases-loop-arg l = into_iter_len l.args.iter
