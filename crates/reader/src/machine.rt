@@ -17,6 +17,8 @@ pub fn run(text: &[u8], words: &mut [u64], base: usize) -> Result<usize, Misread
     let mut at = Progress::new(base);
     at.pile(words, &[Symbol::Items]);
     while let Some(symbol) = at.pop(words) {
+        // Apart by hand: tried with map_err and ?, the proof learnt nothing of the refusal that the closure makes from the cursor, not even
+        // from a clause at it.
         match step(&mut cursor, symbol) {
             Ok(action) => at.perform(words, action),
             Err(expected) => return Err(cursor.misread(expected)),
