@@ -1,47 +1,13 @@
 // Statements and bodies.
-use crate::machine::{Machine, box_of, first_of, nodes_of, reference};
+use crate::machine::{Machine, box_of, first_of, reference};
 use crate::task::Task;
 use model_memory::stop::Stop;
-use model_memory::value::{Place, Value};
-use model_text::tree::{Access, Alt, Arm, BodyId, ExprId, Name, Span, Stmt, Tail};
-
-// What a match looks into: its place, its constructor, and how many fields it has.
-#[derive(Drop)]
-pub struct Matched {
-    place: Place,
-    ctor: Name,
-    count: usize,
-}
-
-// One way of a match.
-trait Way {
-    fn ctor(&self) -> Name;
-}
-
-impl Way for Alt {
-    fn ctor(&self) -> Name {
-        self.ctor
-    }
-}
-
-impl Way for Arm {
-    fn ctor(&self) -> Name {
-        self.ctor
-    }
-}
-
-// The first of the ways that is for the constructor.
-fn find_way<T: Way + Copy>(all: &[T], ways: Span, ctor: Name) -> Result<T, Stop> {
-    nodes_of(all, ways)?
-        .iter()
-        .find(|way| way.ctor() == ctor)
-        .copied()
-        .ok_or(Stop::Wrong)
-}
+use model_memory::value::Value;
+use model_text::tree::{BodyId, ExprId, Name, Span, Stmt, Tail};
 
 impl<'p> Machine<'p> {
     // Runs statements of their own, and then ends their names, down to so many.
-    fn run_block(&mut self, block: Span, names: usize) -> Result<(), Stop> {
+    pub fn run_block(&mut self, block: Span, names: usize) -> Result<(), Stop> {
         self.later(Task::EndNames(names))?;
         self.later(Task::Run(block))
     }
@@ -150,68 +116,6 @@ impl<'p> Machine<'p> {
     pub fn again(&mut self, test: ExprId, block: Span) -> Result<(), Stop> {
         self.meter.turn()?;
         self.after(test, Task::Test(test, block))
-    }
-
-    fn matched(&self, name: Name) -> Result<Matched, Stop> {
-        let place = self.place_of(name)?;
-        let (ctor, count) = match self.memory.read(&place)? {
-            Value::Data(ctor, _, fields) => (*ctor, fields.len()),
-            Value::Number(_) | Value::Box(_) | Value::Reference(_) | Value::Hole => return Err(
-                Stop::Wrong,
-            ),
-        };
-        Ok(Matched { place, ctor, count })
-    }
-
-    // The parts get names: what was taken apart, or references to it.
-    fn bind_parts(&mut self, way: Access, found: Matched, names: Span) -> Result<(), Stop> {
-        if names.end.saturating_sub(names.start) != found.count {
-            return Err(Stop::Wrong);
-        }
-        match way {
-            Access::Take => self.bind_fields(found.place, names),
-            Access::View | Access::Edit => self.bind_references(found.place, names),
-        }
-    }
-
-    fn bind_references(&mut self, place: Place, names: Span) -> Result<(), Stop> {
-        let names = nodes_of(&self.program.nodes.names, names)?;
-        for (index, name) in names.iter().enumerate() {
-            let part = place.field(index)?;
-            self.bind(*name, Value::Reference(part))?;
-        }
-        Ok(())
-    }
-
-    fn bind_fields(&mut self, place: Place, names: Span) -> Result<(), Stop> {
-        let names = nodes_of(&self.program.nodes.names, names)?;
-        let whole = self
-            .memory
-            .replace(place.root, place.path.as_slice(), Value::Hole)?;
-        let Value::Data(_, _, fields) = whole else {
-            return Err(Stop::Wrong);
-        };
-        for (name, field) in names.iter().zip(fields) {
-            self.bind(*name, field)?;
-        }
-        Ok(())
-    }
-
-    fn match_block(&mut self, way: Access, name: Name, alts: Span) -> Result<(), Stop> {
-        let found = self.matched(name)?;
-        let alt = find_way(&self.program.nodes.alts, alts, found.ctor)?;
-        let before = self.scope.len();
-        self.bind_parts(way, found, alt.names)?;
-        self.run_block(alt.block, before)
-    }
-
-    // Written twice: what runs behind the names is a block there and a body here.
-    fn match_body(&mut self, way: Access, name: Name, arms: Span) -> Result<(), Stop> {
-        let found = self.matched(name)?;
-        let arm = find_way(&self.program.nodes.arms, arms, found.ctor)?;
-        let before = self.scope.len();
-        self.bind_parts(way, found, arm.names)?;
-        self.run_body(arm.body, before)
     }
 
     // let x = open y: the box ends, and the name has what was in it.

@@ -6,5 +6,6 @@ mod eval;
 mod exec;
 pub mod input;
 mod machine;
+mod matching;
 pub mod run;
 mod task;
