@@ -7,7 +7,7 @@ use crate::interner::Interner;
 use code::{decode, encode};
 
 // Gives the names in the first n slots one place for each spelling. An error: the table is too small, which one of two words for each
-// slot never is.
+// slot never is. The words lent may be more than the n slots.
 pub fn canonical(text: &[u8], words: &mut [u64], n: usize, table: &mut [u64]) -> Result<(), Full>
     requires { 3 * n ≤ length words.old }
     ensures code { code_in text.now words.new n ≡ code_in text.now words.old n }

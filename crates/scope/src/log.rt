@@ -44,6 +44,7 @@ pub fn said(log: &[u64], from: usize, to: usize, place: Place) -> Option<bool>
     requires { 2 * to ≤ length log.now }
     ensures { result ≡ Said (part log.now from (to - from)) place.0 }
 {
+    // No `find`: what `rev` of a range yields, no lemma says.
     for t in (from..to).rev() {
         let entry = Move::load(log, t);
         if entry.place == place {
@@ -69,7 +70,7 @@ pub fn is_gone(log: &[u64], top: usize, gaps: &[u64], count: usize, place: Place
     said(log, 0, t, place).unwrap_or(false)
 }
 
-// The word for gone, or there.
+// The word for gone, or there: From with a name, whose clauses tie it to the definition's bit.
 pub fn bit(gone: bool) -> u64
     ensures is { (result == 1) ≡ gone }
     ensures value { result ≡ bit_of gone }

@@ -50,6 +50,7 @@ impl FnRef<'_> {
         Declared::load(self.tables.fns, self.number).parts
     }
 
+    // Plain and without boxes, here and below: what `ValueType::written` promises is passed on.
     // The type of what it gives.
     pub fn gives(self) -> ValueType
         ensures is { type_in self.entry.tables result ≡ (head_of self.entry).ret }

@@ -14,7 +14,7 @@ use crate::span::Span;
 use crate::tables::Tables;
 use code::{Instr, Record, decode};
 
-// Notes what the instruction at a place of the code declares.
+// Notes what the instruction at a place of the code declares. That the room keeps its lengths is said here and below: each borrows it.
 fn note(room: &mut Room, done: Progress, at: usize, instr: Instr) -> Progress
     requires { Longer (words_of room.old) done }
     ensures noted { Noted instr at (words_of room.old) done (words_of room.new) result }
@@ -102,7 +102,7 @@ fn note_all(code: &[u64], size: usize, room: &mut Room) -> Progress
     done
 }
 
-// The tables of the code, of so many instructions.
+// The tables of the code, of so many instructions: the words lent may be more than these.
 pub fn collect<'a>(text: &'a [u8], code: &'a [u64], size: usize, mut room: Room<'a>) -> Tables<'a>
     requires code { size * 3 ≤ length code.now }
     requires room { Roomy (words_of room) (rows_in code.now 0 size) size }

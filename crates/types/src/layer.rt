@@ -7,7 +7,7 @@ ghost use Rattle.types.specs.Types.{written, base_of, type_of, shape_of, Inner, 
 use crate::role::role_at;
 use crate::ty::{Base, Outer, Shape, ValueType};
 
-// The outermost layer of what is written behind that many instructions.
+// The outermost layer of what is written behind that many instructions. `inner`, here and below, is what loops over layers count down by.
 fn written_shape(code: &[u64], slot: usize) -> Shape
     ensures layer { (text : List ℕ) → shape_of text code.now result ≡ written text code.now slot }
     ensures inner { Inner 0 result }
