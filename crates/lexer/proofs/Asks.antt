@@ -15,7 +15,7 @@ use Rattle.lexer.specs.declared.token.Sign.TheVariants.{LeftParen, RightParen, L
 use Rattle.lexer.specs.declared.token.Token.{Token}
 use Rattle.lexer.specs.declared.token.Token.TheVariants.{Reserved, Mark, Lower, Upper, Number, BadNumber, Other}
 use Rattle.lexer.proofs.Fits.{not_true}
-use Rattle.lexer.proofs.Same.{apart}
+use Rattle.lexer.proofs.Same.{apart, same_sym}
 use Rattle.lexer.proofs.SameToken.{same_sign, same_keyword}
 
 -- the first bytes of reserved words and of signs
@@ -217,6 +217,13 @@ number_of_token text (Upper x) w m = (large_not (leading w) m.0).1
 number_of_token text (Number n) w m = m
 number_of_token text BadNumber w m = m
 number_of_token text Other w m = m.no_number
+
+-- none is the end of a text
+pub some_sign : (s : Sign) → same (drawn s) [] ≡ false
+some_sign s = same_sym (drawn s) [] ∙ apart (λ b. eqb b 0) [] (drawn s) refl (no (sign_symbol s).some_byte)
+
+pub some_keyword : (k : Keyword) → same (spelled k) [] ≡ false
+some_keyword k = same_sym (spelled k) [] ∙ apart small [] (spelled k) refl (yes_no (keyword_word k).is_small)
 
 -- the same of the next lexeme of many, which has no byte at the end
 module _ (text : List ℕ) where

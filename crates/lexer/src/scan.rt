@@ -7,7 +7,7 @@ ghost use Rattle.lexer.specs.Spelling.{lexeme_at, word_run};
 pub fn in_word(b: u8) -> bool
     ensures { result ≡ is_word_byte b }
 {
-    matches!(b, b'A'..=b'Z' | b'a'..=b'z' | b'_' | b'0'..=b'9')
+    b.is_ascii_alphanumeric() || b == b'_'
 }
 
 fn is_blank(b: u8) -> bool

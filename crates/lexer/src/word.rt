@@ -1,4 +1,4 @@
-ghost use Rattle.std.specs.Prelude.{◌≡◌, true, false, [], ◌∷◌, MatchOption};
+ghost use Rattle.std.specs.Prelude.{◌≡◌, ℕ, true, false, List, [], ◌∷◌, map, MatchOption};
 ghost use Rattle.std.proofs.Math.Option.{some, none};
 ghost use Rattle.language.specs.Base.{same, is_in};
 ghost use Rattle.language.specs.Text.{value_of, reserved};
@@ -23,37 +23,40 @@ pub fn number(lexeme: &[u8]) -> Option<u64>
     Some(n)
 }
 
-const KEYWORDS: [Keyword; 20] = [
-    Keyword::Data,
-    Keyword::Drop,
-    Keyword::By,
-    Keyword::Fn,
-    Keyword::Let,
-    Keyword::Put,
-    Keyword::If,
-    Keyword::Else,
-    Keyword::While,
-    Keyword::Take,
-    Keyword::View,
-    Keyword::Edit,
-    Keyword::Open,
-    Keyword::Inside,
-    Keyword::Give,
-    Keyword::Box,
-    Keyword::Ref,
-    Keyword::Mut,
-    Keyword::Int,
-    Keyword::Get,
-];
+// That reserved word, if a lexeme is it. Inlined, so that its spelling is a constant of the code.
+#[inline(always)]
+#[tactic(auto, using(crate::proofs::Words::compared, crate::proofs::Same::same_by_eq))]
+fn exactly(lexeme: &[u8], word: Keyword) -> Option<Keyword>
+    ensures { MatchOption result (same lexeme.now (spelled word) ≡ false) (λ k. lexeme.now ≡ spelled k) }
+{
+    (lexeme == word.word().as_bytes()).then_some(word)
+}
 
-// The reserved word that a lexeme is.
+// The reserved word that a lexeme is, among those that begin as it does: three at most, and no search over all of them.
+#[tactic(auto, using(crate::proofs::Words::one, crate::proofs::Words::two, crate::proofs::Words::three))]
 pub fn keyword(lexeme: &[u8]) -> Option<Keyword>
     ensures { MatchOption result (is_in lexeme.now reserved ≡ false) (λ k. lexeme.now ≡ spelled k) }
 {
-    KEYWORDS
-        .iter()
-        .copied()
-        .find(|k| lexeme == k.word().as_bytes())
+    match lexeme.first()? {
+        b'd' => exactly(lexeme, Keyword::Data).or(exactly(lexeme, Keyword::Drop)),
+        b'b' => exactly(lexeme, Keyword::By).or(exactly(lexeme, Keyword::Box)),
+        b'f' => exactly(lexeme, Keyword::Fn),
+        b'l' => exactly(lexeme, Keyword::Let),
+        b'p' => exactly(lexeme, Keyword::Put),
+        b'i' => exactly(lexeme, Keyword::If).or(exactly(lexeme, Keyword::Inside).or(exactly(
+            lexeme,
+            Keyword::Int,
+        ))),
+        b'e' => exactly(lexeme, Keyword::Else).or(exactly(lexeme, Keyword::Edit)),
+        b'w' => exactly(lexeme, Keyword::While),
+        b't' => exactly(lexeme, Keyword::Take),
+        b'v' => exactly(lexeme, Keyword::View),
+        b'o' => exactly(lexeme, Keyword::Open),
+        b'g' => exactly(lexeme, Keyword::Give).or(exactly(lexeme, Keyword::Get)),
+        b'r' => exactly(lexeme, Keyword::Ref),
+        b'm' => exactly(lexeme, Keyword::Mut),
+        _ => None,
+    }
 }
 
 // The sign that a byte is. A match and no search over the signs: it is one jump.

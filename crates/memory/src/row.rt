@@ -11,33 +11,34 @@ pub struct Memory<'a> {
     pub stack: &'a mut [u64],
 }
 
-// Words one behind the other in the row.
-pub trait Span {
-    // where they lie in the row, if boxes have so many words; whether so many words are there
-    ghost start: { Self → ℕ → ℕ };
+// Where words are read.
+pub trait Source {
+    // where it lies in the row, if boxes have so many words; whether so many words are there
+    ghost from: { Self → ℕ → ℕ };
 
     ghost has: { Self → ℕ → ℕ → ℕ → Type 0 };
-}
 
-// Where words are read.
-pub trait Source: Span {
     fn read(&self, m: &Memory, i: usize) -> u64
-        requires { Self.has self.now (heap_words m.now) (stack_words m.now) (i + 1) }
-        ensures { result ≡ slice_index (row m.now) (Self.start self.now (heap_words m.now) + i) };
+        requires { has self.now (heap_words m.now) (stack_words m.now) (i + 1) }
+        ensures { result ≡ slice_index (row m.now) (from self.now (heap_words m.now) + i) };
 
-    ghost fewer: { (s : Self) (h k n i : ℕ) → Self.Span.has s h k n → i < n → Self.Span.has s h k (i + 1) };
+    ghost fewer: { (s : Self) (h k n i : ℕ) → has s h k n → i < n → has s h k (i + 1) };
 }
 
-// Where words are written.
-pub trait Sink: Span {
+// Where words are written. It has a place of its own, and none with Source: a type may write other words than it reads.
+pub trait Sink {
+    ghost to: { Self → ℕ → ℕ };
+
+    ghost holds: { Self → ℕ → ℕ → ℕ → Type 0 };
+
     fn write(&self, m: &mut Memory, i: usize, v: u64)
-        requires { Self.has self.now (heap_words m.old) (stack_words m.old) (i + 1) }
+        requires { holds self.now (heap_words m.old) (stack_words m.old) (i + 1) }
         ensures same { SamePools m.old m.new }
-        ensures put { row m.new ≡ slice_set (row m.old) (Self.start self.now (heap_words m.old) + i) v };
+        ensures put { row m.new ≡ slice_set (row m.old) (to self.now (heap_words m.old) + i) v };
 
-    ghost shorter: { (s : Self) (h k n i : ℕ) → Self.Span.has s h k n → i < n → Self.Span.has s h k (i + 1) };
+    ghost shorter: { (s : Self) (h k n i : ℕ) → holds s h k n → i < n → holds s h k (i + 1) };
 
-    ghost within: { (s : Self) (h k n : ℕ) → Self.Span.has s h k n → Self.Span.start s h + n ≤ h + k };
+    ghost within: { (s : Self) (h k n : ℕ) → holds s h k n → to s h + n ≤ h + k };
 }
 
 // Words of a box, by the address in the heap.
@@ -52,13 +53,11 @@ pub struct UnderWay(pub Address);
 #[derive(Clone, Copy)]
 pub struct Referred(pub Address);
 
-impl Span for InBox {
-    ghost start = { λ s h. s.0.0 };
+impl Source for InBox {
+    ghost from = { λ s h. s.0.0 };
 
     ghost has = { λ s h k n. s.0.0 + n ≤ h };
-}
 
-impl Source for InBox {
     ghost fewer = { Prim.search rules };
 
     fn read(&self, m: &Memory, i: usize) -> u64 {
@@ -67,13 +66,11 @@ impl Source for InBox {
     }
 }
 
-impl Span for UnderWay {
-    ghost start = { λ s h. h + s.0.0 };
+impl Source for UnderWay {
+    ghost from = { λ s h. h + s.0.0 };
 
     ghost has = { λ s h k n. s.0.0 + n ≤ k };
-}
 
-impl Source for UnderWay {
     ghost fewer = { Prim.search rules };
 
     fn read(&self, m: &Memory, i: usize) -> u64 {
@@ -83,6 +80,10 @@ impl Source for UnderWay {
 }
 
 impl Sink for InBox {
+    ghost to = { λ s h. s.0.0 };
+
+    ghost holds = { λ s h k n. s.0.0 + n ≤ h };
+
     ghost shorter = { Prim.search rules };
 
     ghost within = { Prim.search rules };
@@ -93,6 +94,10 @@ impl Sink for InBox {
 }
 
 impl Sink for UnderWay {
+    ghost to = { λ s h. h + s.0.0 };
+
+    ghost holds = { λ s h k n. s.0.0 + n ≤ k };
+
     ghost shorter = { Prim.search rules };
 
     ghost within = { Prim.search rules };
@@ -102,13 +107,11 @@ impl Sink for UnderWay {
     }
 }
 
-impl Span for Referred {
-    ghost start = { λ s h. s.0.0 };
+impl Source for Referred {
+    ghost from = { λ s h. s.0.0 };
 
     ghost has = { λ s h k n. s.0.0 + n ≤ h + k };
-}
 
-impl Source for Referred {
     ghost fewer = { Prim.search rules };
 
     fn read(&self, m: &Memory, i: usize) -> u64 {
@@ -123,6 +126,10 @@ impl Source for Referred {
 }
 
 impl Sink for Referred {
+    ghost to = { λ s h. s.0.0 };
+
+    ghost holds = { λ s h k n. s.0.0 + n ≤ h + k };
+
     ghost shorter = { Prim.search rules };
 
     ghost within = { Prim.search rules };
@@ -141,10 +148,10 @@ impl Sink for Referred {
 // Moves n words.
 pub fn move_words<S: Source, T: Sink>(m: &mut Memory, s: &S, t: &T, n: Size)
     requires has { S.has s.now (heap_words m.old) (stack_words m.old) n.0 }
-    requires holds { T.has t.now (heap_words m.old) (stack_words m.old) n.0 }
-    requires apart { Apart (S.start s.now (heap_words m.old)) (T.start t.now (heap_words m.old)) n.0 }
+    requires holds { T.holds t.now (heap_words m.old) (stack_words m.old) n.0 }
+    requires apart { Apart (S.from s.now (heap_words m.old)) (T.to t.now (heap_words m.old)) n.0 }
     ensures same { SamePools m.old m.new }
-    ensures moved { Moved (row m.old) (row m.new) (S.start s.now (heap_words m.old)) (T.start t.now (heap_words m.old)) n.0 }
+    ensures moved { Moved (row m.old) (row m.new) (S.from s.now (heap_words m.old)) (T.to t.now (heap_words m.old)) n.0 }
 {
     // By number: both places may lie in one slice, so a word at a time is borrowed.
     for i in 0..n.0 {

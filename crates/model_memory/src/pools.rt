@@ -14,6 +14,8 @@ struct Class {
 pub struct Pools {
     // by their words
     classes: BTreeMap<u64, Class>,
+    // the words of all boxes: of each size as many as there were at most; never more than the limit
+    peaks: u128,
     limit: u64,
 }
 
@@ -21,29 +23,23 @@ impl Pools {
     pub fn new(heap: Global, limit: u64) -> Self {
         Pools {
             classes: BTreeMap::new(heap),
+            peaks: 0,
             limit,
         }
     }
 
     // The words of all boxes: of each size as many as there were at most.
     pub fn peaks(&self) -> u128 {
-        self.peaks_but(None)
+        self.peaks
     }
 
-    // These words, one size left out. A sum that passes 128 bits is as good as 2^128 - 1.
-    fn peaks_but(&self, left_out: Option<u64>) -> u128 {
-        self.classes
-            .iter()
-            .filter(|(words, _)| Some(**words) != left_out)
-            .map(|(words, class)| u128::from(*words) * u128::from(class.peak))
-            .fold(0, |sum: u128, more| sum.saturating_add(more))
-    }
-
-    // Whether one size may have that peak.
-    fn admits(&self, words: u64, peak: u64) -> bool {
-        self.peaks_but(Some(words))
-            .saturating_add(u128::from(words) * u128::from(peak))
-            <= u128::from(self.limit)
+    // These words, with one box more of a size than there were at most.
+    fn raised(&self, words: u64) -> Result<u128, Stop> {
+        let peaks = self.peaks.saturating_add(u128::from(words));
+        if peaks > u128::from(self.limit) {
+            return Err(Stop::NoHeap);
+        }
+        Ok(peaks)
     }
 
     // One box more of that size.
@@ -51,10 +47,14 @@ impl Pools {
         let class = self.classes.get(&words).copied().unwrap_or_default();
         let in_use = class.in_use.checked_add(1).ok_or(Stop::NoHeap)?;
         let peak = class.peak.max(in_use);
-        if !self.admits(words, peak) {
-            return Err(Stop::NoHeap);
-        }
+        // The sum is kept, not taken anew: a run makes boxes again and again, of many sizes.
+        let peaks = if peak > class.peak {
+            self.raised(words)?
+        } else {
+            self.peaks
+        };
         self.classes.insert(words, Class { in_use, peak })?;
+        self.peaks = peaks;
         Ok(())
     }
 

@@ -56,10 +56,20 @@ fn round(heap: Global, datas: &[Data], known: &Known) -> Result<Known, AllocErro
         .collect(heap)
 }
 
+// How many are known.
+fn told(known: &Known) -> usize {
+    known.values().filter(|size| size.is_some()).count()
+}
+
+// Rounds until one tells no more: what is known stays as it is, so the next would tell the same.
 fn data_sizes(heap: Global, datas: &[Data]) -> Result<Known, AllocError> {
     let mut known = BTreeMap::new(heap);
     for _ in datas {
+        let before = told(&known);
         known = round(heap, datas, &known)?;
+        if told(&known) == before {
+            break;
+        }
     }
     Ok(known)
 }

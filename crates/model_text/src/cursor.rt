@@ -1,43 +1,65 @@
 // The tokens that are still to be read, and what was made of those before them.
 use crate::fault::Fault;
 use crate::tree::{Expr, ExprId, Name, Nodes};
-use lexer::{Keyword, Lexer, Sign, Token, name_bytes};
+use lexer::{Keyword, Lexer, Sign, Token};
 use std::alloc::Global;
 use std::collections::BTreeMap;
+
+// So many names are kept at hand.
+const RECENT: usize = 64;
+
+// Where a name is at hand, by its length, first and last byte.
+fn recent_place(spelling: &[u8]) -> usize {
+    let first = spelling.first().map_or(0, |b| usize::from(*b));
+    let last = spelling.last().map_or(0, |b| usize::from(*b));
+    (first + 3 * last + spelling.len() % RECENT) % RECENT
+}
 
 #[derive(Drop)]
 pub struct Cursor<'t> {
     pub heap: Global,
-    text: &'t [u8],
     lexer: Lexer<'t>,
-    // of each name that was read, by its spelling: where it first stands
-    names: BTreeMap<&'t [u8], Name>,
+    // of each name that was read, by its length and spelling: where it first stands. The length comes first, so that long names of
+    // different lengths aren't compared byte by byte
+    names: BTreeMap<(usize, &'t [u8]), Name>,
+    // those of them that were read last: most names are read again soon
+    recent: Vec<Option<(&'t [u8], Name)>>,
     pub nodes: Nodes,
     // how many pieces the nodes have; 2^64 - 1 stands for more
     pub pieces: u64,
 }
 
 impl<'t> Cursor<'t> {
-    pub fn new(heap: Global, text: &'t [u8]) -> Self {
-        Cursor {
+    pub fn new(heap: Global, text: &'t [u8]) -> Result<Self, Fault> {
+        Ok(Cursor {
             heap,
-            text,
             lexer: Lexer::new(text),
             names: BTreeMap::new(heap),
+            recent: vec![in heap; None; RECENT]?,
             nodes: Nodes::new(heap),
             pieces: 0,
-        }
+        })
     }
 
     // The name of that spelling, if it was read.
-    pub fn known(&self, spelling: &[u8]) -> Option<Name> {
-        self.names.get(spelling).copied()
+    pub fn known(&self, spelling: &'t [u8]) -> Option<Name> {
+        self.names.get(&(spelling.len(), spelling)).copied()
     }
 
     // Where the name's spelling first stands.
-    fn first(&mut self, name: Name) -> Result<Name, Fault> {
-        let spelling = name_bytes(self.text, name);
-        Ok(*self.names.entry(spelling)?.or_insert(name))
+    fn first(&mut self, spelling: &'t [u8], name: Name) -> Result<Name, Fault> {
+        let place = recent_place(spelling);
+        if let Some(Some((known, first))) = self.recent.get(place).copied() {
+            if known == spelling {
+                return Ok(first);
+            }
+        }
+        let key = (spelling.len(), spelling);
+        let first = *self.names.entry(key)?.or_insert(name);
+        if let Some(kept) = self.recent.get_mut(place) {
+            *kept = Some((spelling, first));
+        }
+        Ok(first)
     }
 
     pub fn peek(&self) -> Option<Token> {
@@ -50,10 +72,11 @@ impl<'t> Cursor<'t> {
 
     // The next token, which must be there.
     pub fn next(&mut self) -> Result<Token, Fault> {
+        let spelling = self.lexer.lexeme();
         let token = self.lexer.next().ok_or(Fault::NoText)?;
         match token {
-            Token::Lower(name) => Ok(Token::Lower(self.first(name)?)),
-            Token::Upper(name) => Ok(Token::Upper(self.first(name)?)),
+            Token::Lower(name) => Ok(Token::Lower(self.first(spelling, name)?)),
+            Token::Upper(name) => Ok(Token::Upper(self.first(spelling, name)?)),
             Token::Reserved(_)
             | Token::Mark(_)
             | Token::Number(_)

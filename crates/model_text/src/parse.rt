@@ -94,7 +94,7 @@ fn a_function(cursor: &mut Cursor) -> Result<Function, Fault> {
 
 // The program that the text is.
 pub fn read(heap: Global, text: &[u8]) -> Result<Program, Fault> {
-    let mut cursor = Cursor::new(heap, text);
+    let mut cursor = Cursor::new(heap, text)?;
     let mut datas = Vec::new(heap);
     let mut functions = Vec::new(heap);
     // Counted: it ends by the text, as lib.rt says.

@@ -14,11 +14,10 @@ pub const ACCESSES: [(Keyword, Access); 3] = [
 
 // (x, y, ..), or nothing.
 fn names(cursor: &mut Cursor) -> Result<Span, Fault> {
-    let found = if cursor.accept(Token::Mark(Sign::LeftParen)) {
-        cursor.listed(Cursor::lower)?
-    } else {
-        Vec::new(cursor.heap)
-    };
+    if !cursor.accept(Token::Mark(Sign::LeftParen)) {
+        return append(&mut cursor.nodes.names, &[]);
+    }
+    let found = cursor.listed(Cursor::lower)?;
     cursor.count(found.len() as u64);
     append(&mut cursor.nodes.names, found.as_slice())
 }

@@ -66,7 +66,11 @@ impl<'a> Interner<'a> {
         ensures { MatchOption result (IsFull self.now.table.now) (Stopped self.now.text.now self.now.table.now name) }
     {
         let buckets = self.table.len();
-        let start = hash_of(self.text, name).checked_rem(buckets as u64)? as usize;
+        // Before the hash, which goes over the whole name: where there is no bucket, no name is looked at.
+        if buckets == 0 {
+            return None;
+        }
+        let start = (hash_of(self.text, name) % buckets as u64) as usize;
         // No or_else: of what a closure over self gives, the proof knows nothing.
         match self.search_in(name, start, buckets) {
             Some(spot) => Some(spot),

@@ -1,11 +1,11 @@
-ghost use Rattle.std.specs.Prelude.{◌≡◌, ℕ, Bool, List, Option};
+ghost use Rattle.std.specs.Prelude.{◌≡◌, ℕ, Bool, false, List, [], Option};
 ghost use Rattle.language.specs.Base.{Lexeme, same};
 ghost use Rattle.language.specs.Text.{peek};
 ghost use Rattle.lexer.specs.Left.{Next};
 ghost use Rattle.lexer.specs.Tokens.{spelled, drawn};
 ghost use Rattle.lexer.specs.Asks.{sign_ahead, keyword_ahead, lower_ahead, upper_ahead};
 ghost use Rattle.lexer.specs.declared.token.Token.{Token as TokenOf};
-ghost use Rattle.lexer.proofs.Asks.{asks_sign, asks_keyword};
+ghost use Rattle.lexer.proofs.Asks.{asks_sign, asks_keyword, some_sign, some_keyword};
 
 use super::error::Expected;
 use lexer::{Keyword, Name, Sign, Token};
@@ -27,6 +27,9 @@ pub trait Asked: Copy {
 
     // Where the token is that of the first lexeme, it is asked for exactly where the lexeme is spelled that way.
     ghost tells: { (text : List ℕ) (o : Option TokenOf) (ws : List Lexeme) → Next text o ws → (x : Self) → same (peek ws) (lexeme x) ≡ ahead o x };
+
+    // It has a byte at least, so that the end of a text is none.
+    ghost some_byte: { (x : Self) → same (lexeme x) [] ≡ false };
 }
 
 impl Asked for Sign {
@@ -35,6 +38,8 @@ impl Asked for Sign {
     ghost ahead = { sign_ahead };
 
     ghost tells = { asks_sign };
+
+    ghost some_byte = { some_sign };
 
     fn is_ahead(self, token: Option<Token>) -> bool {
         token == Some(Token::Mark(self))
@@ -51,6 +56,8 @@ impl Asked for Keyword {
     ghost ahead = { keyword_ahead };
 
     ghost tells = { asks_keyword };
+
+    ghost some_byte = { some_keyword };
 
     fn is_ahead(self, token: Option<Token>) -> bool {
         token == Some(Token::Reserved(self))

@@ -1,5 +1,3 @@
-ghost use Rattle.std.specs.Prelude.{◌≡◌, false, []};
-ghost use Rattle.language.specs.Base.{same};
 ghost use Rattle.reader.specs.Symbol.{step as step_of, s_token};
 ghost use Rattle.reader.specs.Steps.{symbol_of};
 ghost use Rattle.reader.specs.Tokens.{text_of, Does};
@@ -13,9 +11,8 @@ use super::{body, expr, item, lists, matching, stmt};
 use code::Instr;
 use lexer::{Keyword, Sign};
 
-// A sign or a keyword that has to stand here; it has a byte at least, so that the end of a text is none.
+// A sign or a keyword that has to stand here.
 fn token<T: Asked>(c: &mut Cursor, asked: T) -> Result<Action, Expected>
-    requires { same (T.lexeme asked) [] ≡ false }
     ensures { Does c.old c.new result (step_of (s_token (T.lexeme asked))) }
 {
     c.expect(asked)?;

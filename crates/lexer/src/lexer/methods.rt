@@ -1,5 +1,5 @@
 ghost use Rattle.std.specs.Prelude.{◌≡◌, ◌≤◌, length};
-ghost use Rattle.language.specs.Text.{idle, skip_one, tokenize};
+ghost use Rattle.language.specs.Text.{idle, peek, skip_one, tokenize};
 ghost use Rattle.lexer.specs.Places.{from_place};
 ghost use Rattle.lexer.specs.Left.{left, text_of, Next, Begins};
 
@@ -56,6 +56,14 @@ impl<'a> Lexer<'a> {
         ensures { Begins (text_of self.now) result (left self.now) }
     {
         self.start
+    }
+
+    // The bytes of the token ahead; none at the end of the text.
+    #[tactic(auto, using(crate::proofs::Tell::lexeme_ahead))]
+    pub fn lexeme(&self) -> &'a [u8]
+        ensures { result.now ≡ peek (left self.now) }
+    {
+        &self.text[self.start..self.end]
     }
 
     // The token ahead, which is then behind the lexer.

@@ -13,4 +13,4 @@ taken w (t ∷ ts) left d h e = ap (λ l. push [] l) e ∙ sym (ap (λ b. choose
 pub returns : goal.returns
 returns g c =
     let e = c.in_ok-expect.ensures in
-    (taken (g.T.Asked.lexeme c.args.asked) (tokens c.args.c.now) _ c.requires e.0.0 e.0.1, e.1)
+    (taken (g.T.Asked.lexeme c.args.asked) (tokens c.args.c.now) _ (g.met.T.Asked.some_byte c.args.asked) e.0.0 e.0.1, e.1)
