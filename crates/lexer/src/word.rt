@@ -1,4 +1,4 @@
-ghost use Rattle.std.specs.Prelude.{◌≡◌, ℕ, true, false, List, [], ◌∷◌, map, MatchOption};
+ghost use Rattle.std.specs.Prelude.{◌≡◌, true, false, [], ◌∷◌, MatchOption};
 ghost use Rattle.std.proofs.Math.Option.{some, none};
 ghost use Rattle.language.specs.Base.{same, is_in};
 ghost use Rattle.language.specs.Text.{value_of, reserved};

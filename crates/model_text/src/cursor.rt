@@ -145,35 +145,30 @@ impl<'t> Cursor<'t> {
         Ok(found)
     }
 
-    // One or more of what `read` reads, with the sign between each two.
-    pub fn separated<T: Drop, F: FnMut(&mut Self) -> Result<T, Fault>>(
+    // Reads once or more, with the sign between each two.
+    pub fn separated<F: FnMut(&mut Self) -> Result<(), Fault>>(
         &mut self,
         sign: Sign,
         mut read: F,
-    ) -> Result<Vec<T>, Fault>
+    ) -> Result<(), Fault>
         requires { F.IsAlwaysCallable read }
     {
-        let mut found = Vec::new(self.heap);
         // Counted: it ends by the text, as lib.rt says.
         for _ in 0..u64::MAX {
-            found.push(read(self)?)?;
+            read(self)?;
             if !self.accept(Token::Mark(sign)) {
                 break;
             }
         }
-        Ok(found)
+        Ok(())
     }
 
     // The same with commas, behind ( up to ).
-    pub fn listed<T: Drop, F: FnMut(&mut Self) -> Result<T, Fault>>(
-        &mut self,
-        read: F,
-    ) -> Result<Vec<T>, Fault>
+    pub fn listed<F: FnMut(&mut Self) -> Result<(), Fault>>(&mut self, read: F) -> Result<(), Fault>
         requires { F.IsAlwaysCallable read }
     {
-        let found = self.separated(Sign::Comma, read)?;
-        self.expect(Token::Mark(Sign::RightParen))?;
-        Ok(found)
+        self.separated(Sign::Comma, read)?;
+        self.expect(Token::Mark(Sign::RightParen))
     }
 
     // So many pieces more.

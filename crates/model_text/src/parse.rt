@@ -40,11 +40,10 @@ fn a_type(cursor: &mut Cursor) -> Result<Type, Fault> {
 
 fn constructor(cursor: &mut Cursor) -> Result<Ctor, Fault> {
     let name = cursor.upper()?;
-    let fields = if cursor.accept(Token::Mark(Sign::LeftParen)) {
-        cursor.listed(a_type)?
-    } else {
-        Vec::new(cursor.heap)
-    };
+    let mut fields = Vec::new(cursor.heap);
+    if cursor.accept(Token::Mark(Sign::LeftParen)) {
+        cursor.listed(|c| Ok(fields.push(a_type(c)?)?))?;
+    }
     Ok(Ctor { name, fields })
 }
 
@@ -52,7 +51,8 @@ fn constructor(cursor: &mut Cursor) -> Result<Ctor, Fault> {
 fn a_data(cursor: &mut Cursor) -> Result<Data, Fault> {
     let name = cursor.lower()?;
     cursor.expect(Token::Mark(Sign::Gets))?;
-    let ctors = cursor.separated(Sign::Bar, constructor)?;
+    let mut ctors = Vec::new(cursor.heap);
+    cursor.separated(Sign::Bar, |c| Ok(ctors.push(constructor(c)?)?))?;
     let last = if cursor.accept(Token::Reserved(Keyword::Drop)) {
         Some(cursor.lower()?)
     } else {
@@ -70,10 +70,11 @@ fn parameter(cursor: &mut Cursor) -> Result<Param, Fault> {
 
 // Behind (.
 fn parameters(cursor: &mut Cursor) -> Result<Vec<Param>, Fault> {
-    if cursor.accept(Token::Mark(Sign::RightParen)) {
-        return Ok(Vec::new(cursor.heap));
+    let mut found = Vec::new(cursor.heap);
+    if !cursor.accept(Token::Mark(Sign::RightParen)) {
+        cursor.listed(|c| Ok(found.push(parameter(c)?)?))?;
     }
-    cursor.listed(parameter)
+    Ok(found)
 }
 
 // Behind fn.

@@ -2,7 +2,7 @@
 use crate::cursor::Cursor;
 use crate::fault::Fault;
 use crate::parse_expr::expression;
-use crate::tree::{Access, ExprId, Name, Span, append};
+use crate::tree::{Access, ExprId, Name, Span};
 use lexer::{Keyword, Sign, Token};
 
 // The words for accesses.
@@ -12,14 +12,24 @@ pub const ACCESSES: [(Keyword, Access); 3] = [
     (Keyword::Edit, Access::Edit),
 ];
 
-// (x, y, ..), or nothing.
+// The name of a part, among the nodes.
+fn part(cursor: &mut Cursor) -> Result<(), Fault> {
+    let name = cursor.lower()?;
+    cursor.nodes.names.push(name)?;
+    cursor.count(1);
+    Ok(())
+}
+
+// (x, y, ..), or nothing. No pattern stands inside another, so the names lie among the nodes as they are read.
 fn names(cursor: &mut Cursor) -> Result<Span, Fault> {
-    if !cursor.accept(Token::Mark(Sign::LeftParen)) {
-        return append(&mut cursor.nodes.names, &[]);
+    let start = cursor.nodes.names.len();
+    if cursor.accept(Token::Mark(Sign::LeftParen)) {
+        cursor.listed(part)?;
     }
-    let found = cursor.listed(Cursor::lower)?;
-    cursor.count(found.len() as u64);
-    append(&mut cursor.nodes.names, found.as_slice())
+    Ok(Span {
+        start,
+        end: cursor.nodes.names.len(),
+    })
 }
 
 // A test, and what is read behind it and again behind else.

@@ -1,5 +1,6 @@
 -- The machine in words: what an action does to them, and what they hold when the text is read.
-use Rattle.std.specs.Prelude.{◌≡◌, ℕ, ◌+◌, ◌*◌, ◌<◌, ◌≤◌, List, [], ◌∷◌, ◌++◌, map, length, Some, None, Option, Ok, Err, Result}
+use Rattle.std.specs.Prelude.{◌≡◌, ℕ, ◌+◌, ◌*◌, ◌<◌, ◌≤◌, List, [], ◌∷◌, ◌++◌, map, length, slice_index}
+use Rattle.std.specs.Prelude.{Some, None, Option, Ok, Err, Result}
 use Rattle.std.proofs.Math.Option.{none}
 use Rattle.language.specs.Text.{reads}
 use Rattle.lexer.specs.Places.{from_place}
@@ -40,12 +41,15 @@ given (Push6 ss) = []
 given (Push7 ss) = []
 given (Push8 ss) = []
 
--- the stack of a reading, and whether there is room for so many more symbols on it and for one instruction more
+-- the stack of a reading, and whether there is room for so many more symbols on it, and for one instruction more besides
 abbrev pub stack_of : List ℕ → Progress → List Symbol
 stack_of words at = stack_in words at.base at.height
 
+abbrev pub StackFits : List ℕ → Progress → ℕ → Type 0
+StackFits words at n = 3 * (at.base + at.height + n) ≤ length words
+
 abbrev pub HasRoom : List ℕ → Progress → ℕ → Type 0
-HasRoom words at n = (at.made < at.base) × (3 * (at.base + at.height + n) ≤ length words)
+HasRoom words at n = (at.made < at.base) × StackFits words at n
 
 -- the words before and after it: these symbols are on top of the stack, and these instructions behind the code
 pub record Performed (ss : List Symbol) (is : List Instr) (before : List ℕ) (at : Progress) (after : List ℕ) (to : Progress) :
@@ -56,6 +60,14 @@ pub record Performed (ss : List Symbol) (is : List Instr) (before : List ℕ) (a
   pub stack : stack_of after to ≡ ss ++ stack_of before at
   pub code : (text : List ℕ) → code_in text after to.made ≡ code_in text before at.made ++ map (means text) is
   pub filled : Filled before at.made → Filled after to.made
+
+-- the words before and after it: these symbols are on top of the stack, and every word in front of the stack is as it was
+pub record Piled (ss : List Symbol) (before : List ℕ) (at : Progress) (after : List ℕ) (to : Progress) : Type 0 where
+  pub base : to.base ≡ at.base
+  pub height : to.height ≡ at.height + length ss
+  pub made : to.made ≡ at.made
+  pub stack : stack_of after to ≡ ss ++ stack_of before at
+  pub kept : (j : ℕ) → j < 3 * at.base → slice_index after j ≡ slice_index before j
 
 -- the symbol on top was taken, or there was none
 abbrev pub Popped : List ℕ → Progress → Option Symbol → Progress → Type 0

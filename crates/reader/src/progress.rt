@@ -1,5 +1,5 @@
 ghost use Rattle.std.specs.Prelude.{◌≡◌, ◌+◌, ◌*◌, ◌≤◌, [], ◌∷◌, length};
-ghost use Rattle.reader.specs.Machine.{pushed, given, HasRoom, Performed, Popped};
+ghost use Rattle.reader.specs.Machine.{pushed, given, StackFits, HasRoom, Piled, Performed, Popped};
 
 use super::action::Action;
 use super::symbol::Symbol;
@@ -36,9 +36,10 @@ impl Progress {
     }
 
     // Puts a symbol on top of the stack.
+    #[tactic(auto, using(crate::proofs::OnStack::stack_put, crate::proofs::OnStack::same_stack))]
     fn push(&mut self, words: &mut [u64], symbol: Symbol)
-        requires { HasRoom words.old self.old 1 }
-        ensures { Performed (symbol ∷ []) [] words.old self.old words.new self.new }
+        requires { StackFits words.old self.old 1 }
+        ensures { Piled (symbol ∷ []) words.old self.old words.new self.new }
     {
         symbol.store(words, self.base + self.height);
         self.height += 1;
@@ -46,8 +47,9 @@ impl Progress {
 
     // Puts symbols on top of the stack, the first of them last.
     pub fn pile(&mut self, words: &mut [u64], symbols: &[Symbol])
-        requires { HasRoom words.old self.old (length symbols.now) }
-        ensures { Performed symbols.now [] words.old self.old words.new self.new }
+        requires { StackFits words.old self.old (length symbols.now) }
+        ensures piled { Piled symbols.now words.old self.old words.new self.new }
+        ensures performed { self.old.made ≤ self.old.base → Performed symbols.now [] words.old self.old words.new self.new }
     {
         // By number: over symbols.iter().rev() the invariant has to say what was yielded so far, in three answers for this one line.
         for i in (0..symbols.len()).rev() {

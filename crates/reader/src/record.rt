@@ -1,5 +1,6 @@
 ghost use Rattle.std.specs.Prelude.{◌≡◌, ℕ, ◌+◌, ◌*◌, ◌<◌, ◌≤◌, ◌≢◌, length, slice_index};
-ghost use Rattle.reader.specs.Stack.{symbol_at};
+ghost use Rattle.code.specs.Words.{with_slot};
+ghost use Rattle.reader.specs.Stack.{slot_for, symbol_at};
 
 use super::symbol::Symbol;
 use code::{Record, Slot};
@@ -20,6 +21,7 @@ impl Record for Symbol {
         requires { (number + 1) * 3 ≤ length words.old }
         ensures this { symbol_at words.new number ≡ self }
         ensures others { (k : ℕ) → (k ≢ number) → symbol_at words.new k ≡ symbol_at words.old k }
+        ensures value { words.new ≡ with_slot words.old number (slot_for self) }
         ensures before { (j : ℕ) → j < 3 * number → slice_index words.new j ≡ slice_index words.old j }
     {
         Slot::from(self).store(words, number);

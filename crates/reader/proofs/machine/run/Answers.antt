@@ -13,11 +13,12 @@ use Rattle.reader.proofs.machine.run.Goals as goal
 
 pub loop-symbol-init : goal.loop-symbol-init
 loop-symbol-init c =
-    let start = c.new-at.ensures in (
+    let start = c.new-at.ensures in
+    let none_made : c.new-at.result.made ≡ 0 = ap (λ (p : Progress). p.made) start in (
       subst (Going c.args.text.now c.pile.new.words c.pile.new.self) (sym c.new-cursor.ensures.all)
           (begun c.args.text.now c.pile.new.words c.new-at.result c.pile.new.self c.args.words.now
-          (ap (λ (p : Progress). p.height) start) (ap (λ (p : Progress). p.made) start)
-          (ap (λ (p : Progress). p.base) start ∙ c.requires.base) c.pile.ensures),
+          (ap (λ (p : Progress). p.height) start) none_made (ap (λ (p : Progress). p.base) start ∙ c.requires.base)
+          (c.pile.ensures.performed (omega (arith, none_made)))),
       c.new-cursor.ensures.text,
     )
 
